@@ -1,0 +1,10 @@
+pub mod Numbers
+pub mod Headers
+pub mod Stacks
+pub mod Runs
+pub mod Segments
+pub mod Maps
+pub mod Started
+pub mod Segmented
+pub mod Loaded
+pub mod Covered

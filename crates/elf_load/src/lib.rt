@@ -1,0 +1,15 @@
+// The loader of executables: ELF32 files for RISC-V.
+#![tactic(auto)]
+
+mod content;
+mod fault;
+mod header;
+mod loader;
+mod stack;
+mod start;
+
+pub use fault::{ImageFault, LoadError};
+pub use loader::load;
+
+#[cfg(test)]
+mod tests;

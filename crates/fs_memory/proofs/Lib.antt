@@ -1,0 +1,5 @@
+mod BlockLemmas
+mod ContentLemmas
+mod FileLemmas
+mod SearchLemmas
+mod TableLemmas

@@ -1,0 +1,5 @@
+use Rattle.fs_memory.proofs.FileLemmas.{table_held}
+use Rattle.fs_memory.proofs.files.Files.hold.Goals as goal
+
+pub invariant_of-self : goal.invariant_of-self
+invariant_of-self c = rw c.hold.ensures (table_held c.self.inside.files c.args.id c.self.invariant (rw (← c.self.view_is) at c.requires.there))

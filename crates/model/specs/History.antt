@@ -1,0 +1,17 @@
+-- A history: the events of a run so far, the newest first, so that the prefix before an event is the tail.
+use Rattle.std.specs.Prelude.{◌≡◌, ℕ, ◌+◌, List, [], ◌∷◌, length, Option, Some, None}
+use Rattle.node_event.specs.declared.event.Event.{Event}
+use Rattle.node_event.specs.declared.script.ScriptLine.{ScriptLine}
+use Rattle.model.specs.User.{UserState}
+use Rattle.model.specs.Machine.{MachineState, start, and_then, played}
+use Rattle.model.specs.Schedule.{event_steps}
+
+-- the one-node machine after a history, none where an event could not be played
+abbrev pub machine_of : List UserState → List ScriptLine → List Event → Option MachineState
+machine_of setup script [] = Some start
+machine_of setup script (e ∷ es) = and_then (machine_of setup script es) (played setup (event_steps script e.what))
+
+-- the stamps are 1, 2, 3 and so on, all at node 0
+abbrev pub AreStamped : List Event → Type 0
+AreStamped [] = Unit {0}
+AreStamped (e ∷ es) = (e.stamp ≡ length es + 1) × (e.node ≡ 0) × AreStamped es

@@ -1,0 +1,13 @@
+pub mod Words
+pub mod User
+pub mod Instruction
+pub mod Request
+pub mod Advance
+pub mod Kernel
+pub mod Machine
+pub mod Schedule
+pub mod History
+pub mod ScriptLaw
+pub mod OnceLaw
+pub mod Image
+pub mod Report

@@ -1,0 +1,185 @@
+-- The one-node machine: the system without nodes, letters or migration.
+use Rattle.std.specs.Prelude.{ℕ, zero, suc, ◌+◌, ◌-◌, ◌^◌, List, [], ◌∷◌, ◌++◌, Option, Some, None, ◌==◌, ◌&&◌, if◌then◌else◌, slice_get, slice_set, length, nat_lt, ℤ, count_by, is_none, is_some, refl, ◌≡◌, Bool, true, false}
+use Rattle.std.specs.Option.{option_and_then}
+use Rattle.std.specs.List.{list_all}
+use Rattle.std.specs.Coded.{Coded, code_by, coded×, coded_list}
+use Rattle.call_table.specs.declared.request.Request.{Request}
+use Rattle.call_table.specs.declared.request.Answer.{Answer}
+use Rattle.call_table.specs.declared.process.End.{End}
+use Rattle.call_table.specs.declared.process.End.TheVariants as ends
+use Rattle.call_table.specs.declared.process.PidState.{PidState}
+use Rattle.call_table.specs.declared.process.PidState.TheVariants as states
+use Rattle.call_table.specs.declared.process.Reply3.{Reply3}
+use Rattle.call_table.specs.contracts.process.Reply3 as reply_row
+use Rattle.model.specs.User.{UserState, coded_user}
+use Rattle.model.specs.Request.{call_request, returned}
+use Rattle.model.specs.Advance.{Went, Done, AtCall, Faults, advance, advanced}
+use Rattle.model.specs.Kernel.{KernelState, Called, no_process, call_result, with_end, coded_kernel}
+use Rattle.model.specs.declared.step.Step.{Step}
+use Rattle.model.specs.declared.step.Step.TheVariants.{Launch, Steps, Do, Break, Take, Fall}
+
+pub record MachineState : Type 0 where
+  pub kernel : KernelState
+  -- the context of each process from 1 on, kept after its end
+  pub users : List UserState
+  -- of each served call, the newest last
+  pub replies : List Reply3
+
+abbrev pub start : MachineState
+start = record { kernel = no_process; users = []; replies = [] }
+
+-- ---- processes by number
+
+abbrev pub at_pid : {A : Type 0} → List A → ℕ → Option A
+at_pid xs zero = None
+at_pid xs (suc i) = slice_get xs i
+
+-- the context of a live process
+abbrev pub if_live : Option (Option End) → Option UserState → Option UserState
+if_live (Some None) user = user
+if_live (Some (Some e)) user = None
+if_live None user = None
+
+abbrev pub live_user : MachineState → ℕ → Option UserState
+live_user m pid = if_live (at_pid m.kernel.ends pid) (at_pid m.users pid)
+
+-- how a process ended, none where it is live or was never given
+abbrev pub end_of : Option (Option End) → Option End
+end_of None = None
+end_of (Some e) = e
+
+abbrev pub ended_of : MachineState → ℕ → Option End
+ended_of m pid = end_of (at_pid m.kernel.ends pid)
+
+-- ---- launch
+
+-- the next process
+abbrev pub next_pid : MachineState → ℕ
+next_pid m = length m.users + 1
+
+-- at most 64 processes live, and pids go to 32,767
+abbrev pub can_launch : MachineState → Bool
+can_launch m = nat_lt (count_by is_none m.kernel.ends) 64 && nat_lt (length m.users) 32767
+
+abbrev pub launched : Option UserState → MachineState → Option MachineState
+launched None m = None
+launched (Some u) m =
+    if can_launch m
+    then Some (record { kernel = record m.kernel { ends = m.kernel.ends ++ None ∷ [] }; users = m.users ++ record u { pid = next_pid m } ∷ []; replies = m.replies })
+    else None
+
+-- ---- steps
+
+abbrev pub with_user : MachineState → ℕ → UserState → MachineState
+with_user m pid u = record m { users = slice_set m.users (pid - 1) u }
+
+abbrev pub stepped : MachineState → ℕ → Option UserState → Option MachineState
+stepped m pid None = None
+stepped m pid (Some u) = Some (with_user m pid u)
+
+abbrev pub steps_of : MachineState → ℕ → ℕ → Option UserState → Option MachineState
+steps_of m pid k user = if k == 0 then None else stepped m pid (option_and_then (advanced k) user)
+
+-- ---- a served call
+
+-- what a call leaves
+pub record Served : Type 0 where
+  pub kernel : KernelState
+  pub user : UserState
+  pub reply : Reply3
+
+abbrev pub answered : ℕ → UserState → Option Called → Option Served
+answered pid u None = None
+answered pid u (Some called) = Some (record {
+  kernel = called.kernel;
+  user = returned u called.answer;
+  reply = record { pid = pid; number = (call_request u).number; value = called.answer.value };
+})
+
+abbrev pub served_at : KernelState → ℕ → UserState → Went → Option Served
+served_at k pid u AtCall = answered pid u (call_result k pid (call_request u))
+served_at k pid u (Done v) = None
+served_at k pid u (Faults signal) = None
+
+abbrev pub served : KernelState → ℕ → UserState → Option Served
+served k pid u = served_at k pid u (advance u)
+
+abbrev pub with_served : MachineState → ℕ → Option Served → Option MachineState
+with_served m pid None = None
+with_served m pid (Some s) = Some (record { kernel = s.kernel; users = slice_set m.users (pid - 1) s.user; replies = m.replies ++ s.reply ∷ [] })
+
+abbrev pub done_of : MachineState → ℕ → Option UserState → Option MachineState
+done_of m pid user = with_served m pid (option_and_then (served m.kernel pid) user)
+
+-- ---- a fault
+
+abbrev pub fallen_at : MachineState → ℕ → Went → Option MachineState
+fallen_at m pid (Faults signal) = Some (record m { kernel = with_end m.kernel pid (ends.Signal signal) })
+fallen_at m pid (Done v) = None
+fallen_at m pid AtCall = None
+
+abbrev pub fallen : MachineState → ℕ → Option UserState → Option MachineState
+fallen m pid None = None
+fallen m pid (Some u) = fallen_at m pid (advance u)
+
+-- ---- one step, none where its condition fails
+
+-- no call blocks and no signal is pending in this kernel, so no call is broken off and no signal taken
+abbrev pub machine_step : List UserState → Step → MachineState → Option MachineState
+machine_step setup (Launch i) m = launched (slice_get setup i) m
+machine_step setup (Steps pid k) m = steps_of m pid k (live_user m pid)
+machine_step setup (Do pid) m = done_of m pid (live_user m pid)
+machine_step setup (Break pid) m = None
+machine_step setup (Take pid) m = None
+machine_step setup (Fall pid) m = fallen m pid (live_user m pid)
+
+abbrev pub and_then : Option MachineState → (MachineState → Option MachineState) → Option MachineState
+and_then None go = None
+and_then (Some m) go = go m
+
+-- all steps in order, none where a condition fails
+abbrev pub played : List UserState → List Step → MachineState → Option MachineState
+played setup [] m = Some m
+played setup (step ∷ steps) m = and_then (machine_step setup step m) (played setup steps)
+
+-- from the empty state
+abbrev pub play : List UserState → List Step → Option MachineState
+play setup steps = played setup steps start
+
+-- a test says whether there is an outcome, and then the state after it
+abbrev pub Moves : {A : Type 0} → Bool → Option A → A → Type 0
+Moves true m new = m ≡ Some new
+Moves false m new = m ≡ None
+
+-- ---- what is told at the end
+
+abbrev pub state_of : Option End → PidState
+state_of None = states.Live
+state_of (Some (ends.Exit code)) = states.Exit code
+state_of (Some (ends.Signal signal)) = states.Signal signal
+
+-- of the processes from a pid on
+abbrev pub statuses_from : ℕ → List (Option End) → List (ℕ × PidState)
+statuses_from pid [] = []
+statuses_from pid (e ∷ es) = (pid, state_of e) ∷ statuses_from (pid + 1) es
+
+abbrev pub statuses : MachineState → List (ℕ × PidState)
+statuses m = statuses_from 1 m.kernel.ends
+
+-- every process has ended
+abbrev pub have_ended : MachineState → Bool
+have_ended m = list_all is_some m.kernel.ends
+
+-- ---- how these are told apart
+
+abbrev pub coded_replies : Coded (List Reply3)
+coded_replies = coded_list reply_row.the_row.coded
+
+abbrev pub Parts : Type 0
+Parts = KernelState × (List UserState × List Reply3)
+
+abbrev pub coded_machine : Coded MachineState
+coded_machine = code_by Parts (coded× coded_kernel (coded× (coded_list coded_user) coded_replies))
+    (λ m. (m.kernel, (m.users, m.replies)))
+    (λ p. record { kernel = p.0; users = p.1.0; replies = p.1.1 })
+    (λ _. refl)

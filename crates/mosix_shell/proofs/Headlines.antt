@@ -1,0 +1,62 @@
+-- A run that ended replays, and is lawful.
+use Rattle.std.proofs.Common.{◌≡◌, ℕ, ◌≤◌, List, [], ◌∷◌, reverse, refl, ap, ◌∙◌, sym, subst, arith, Option, Some, true, false, cond, nat_eq, Bool}
+use Rattle.node_event.specs.declared.event.Event.{Event}
+use Rattle.node_event.specs.declared.script.ScriptLine.{ScriptLine}
+use Rattle.model.specs.User.{UserState}
+use Rattle.model.specs.Machine.{MachineState, play}
+use Rattle.model.specs.Schedule.{schedule}
+use Rattle.model.specs.History.{machine_of, AreStamped}
+use Rattle.model.specs.ScriptLaw.{ScriptLaw, command_count}
+use Rattle.model.specs.OnceLaw.{OnceLaw, AreGivenBack, phase_of}
+use Rattle.model.specs.declared.phase.Phase.{Phase}
+use Rattle.model.specs.declared.phase.Phase.TheVariants.{Goes}
+use Rattle.mosix_shell.specs.Script.{script_of}
+use Rattle.mosix_shell.specs.Turns.{Moment, Story, story_of, first_event, first_moment, quantum_steps, later_events}
+use Rattle.mosix_shell.specs.Running.{IsRunOfStory, Finishes}
+use Rattle.mosix_shell.specs.Headline.{Replays, IsLawful}
+use Rattle.mosix_shell.specs.declared.run.Run.{Run}
+use Rattle.mosix_shell.proofs.Telling.{Told}
+use Rattle.mosix_shell.proofs.Stories.{Kept, IsTold, IsFinished, story_told, start_kept, finished}
+use Rattle.mosix_shell.proofs.Replaying.{replay}
+
+replays_by : (setup : List UserState) (script : List ScriptLine) (run : Run) (s : Story) → IsRunOfStory run s → machine_of setup script s.history ≡ Some s.last.machine → IsFinished s.last → Replays setup script run
+replays_by setup script run s r plays done = record {
+  m = s.last.machine;
+  plays = replay setup script run.events ∙ ap (machine_of setup script) r.history ∙ plays;
+  statuses_are = r.told.statuses_are;
+  terminal_is = r.told.terminal_is;
+  no_files = r.told.no_files;
+  replies_are = r.told.replies_are;
+  done = r.told.done;
+  ended = done.all;
+}
+
+no_phase : (b : Bool) (phase : Phase) → phase ≡ Goes → cond b phase Goes ≡ Goes
+no_phase true phase h = h
+no_phase false phase h = refl
+
+lawful_by : (setup : List UserState) (script : List ScriptLine) (run : Run) (s : Story) → s.history ≡ reverse run.events → Told quantum_steps setup script s.history s.last → s.last.phase ≡ Goes → IsLawful quantum_steps setup script run
+lawful_by setup script run s e t goes = record {
+  stamped = subst AreStamped e t.stamped;
+  scripted = subst (ScriptLaw setup script) e t.scripted;
+  all_lines = ap command_count (sym e) ∙ t.commands;
+  once = subst (OnceLaw quantum_steps setup script) e t.once;
+  given_back = subst AreGivenBack e (λ p. t.phases p ∙ no_phase (nat_eq 1 p) s.last.phase goes);
+}
+
+some_quantum : 1 ≤ quantum_steps
+unfolding quantum_steps
+some_quantum = omega arith
+
+story_is_told : (u : UserState) (name : List ℕ) → IsTold quantum_steps (u ∷ []) (script_of name) (story_of u)
+story_is_told u name = story_told quantum_steps later_events (u ∷ []) (script_of name) (first_event ∷ []) (first_moment u) some_quantum (start_kept quantum_steps u name)
+
+pub replays : (run : Run) (u : UserState) (name : List ℕ) → IsRunOfStory run (story_of u) → Replays (u ∷ []) (script_of name) run
+replays run u name r =
+    let t = story_is_told u name in
+    replays_by (u ∷ []) (script_of name) run (story_of u) r t.kept.told.plays (finished quantum_steps (u ∷ []) (script_of name) (story_of u) t r.ended)
+
+pub lawful : (run : Run) (u : UserState) (name : List ℕ) → IsRunOfStory run (story_of u) → IsLawful quantum_steps (u ∷ []) (script_of name) run
+lawful run u name r =
+    let t = story_is_told u name in
+    lawful_by (u ∷ []) (script_of name) run (story_of u) (sym r.history) t.kept.told (finished quantum_steps (u ∷ []) (script_of name) (story_of u) t r.ended).goes

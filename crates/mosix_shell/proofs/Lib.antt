@@ -1,0 +1,10 @@
+pub mod Written
+pub mod Ascii
+pub mod Walks
+pub mod Telling
+pub mod Kernels
+pub mod Stories
+pub mod Replaying
+pub mod Headlines
+pub mod Turning
+pub mod Verdicts

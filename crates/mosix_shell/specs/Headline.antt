@@ -1,0 +1,33 @@
+-- The headline of a run: its own events, played on one node, give what it tells, and they are lawful.
+use Rattle.std.specs.Prelude.{◌≡◌, ℕ, List, [], ◌∷◌, reverse, Option, Some, true}
+use Rattle.node_event.specs.declared.script.ScriptLine.{ScriptLine}
+use Rattle.model.specs.User.{UserState}
+use Rattle.model.specs.Machine.{MachineState, play, statuses, have_ended}
+use Rattle.model.specs.Schedule.{schedule}
+use Rattle.model.specs.History.{AreStamped}
+use Rattle.model.specs.ScriptLaw.{ScriptLaw, command_count}
+use Rattle.model.specs.OnceLaw.{OnceLaw, AreGivenBack}
+use Rattle.mosix_shell.specs.Script.{script_of}
+use Rattle.mosix_shell.specs.declared.run.Run.{Run}
+use Rattle.mosix_shell.specs.declared.run.Last.TheVariants as last
+
+-- the schedule of the events leads to a state, and the run tells that state's statuses, terminal, files and replies
+pub record Replays (setup : List UserState) (script : List ScriptLine) (run : Run) : Type 0 where
+  pub m : MachineState
+  pub plays : play setup (schedule script run.events) ≡ Some m
+  pub statuses_are : run.statuses ≡ statuses m
+  pub terminal_is : run.terminal ≡ m.kernel.terminal
+  pub no_files : run.files ≡ []
+  pub replies_are : run.replies ≡ m.replies
+  -- the run is done, and every process has ended
+  pub done : run.last ≡ last.Done
+  pub ended : have_ended m ≡ true
+
+-- each event is as the laws say, at its own prefix
+pub record IsLawful (quantum : ℕ) (setup : List UserState) (script : List ScriptLine) (run : Run) : Type 0 where
+  pub stamped : AreStamped (reverse run.events)
+  pub scripted : ScriptLaw setup script (reverse run.events)
+  -- the script is at its end
+  pub all_lines : command_count (reverse run.events) ≡ 1
+  pub once : OnceLaw quantum setup script (reverse run.events)
+  pub given_back : AreGivenBack (reverse run.events)

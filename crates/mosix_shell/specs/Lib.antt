@@ -1,0 +1,6 @@
+pub mod Words
+pub mod Script
+pub mod Turns
+pub mod Running
+pub mod Headline
+pub mod Top

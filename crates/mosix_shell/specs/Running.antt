@@ -1,0 +1,40 @@
+-- What the answers of the run's parts tell.
+use Rattle.std.specs.Prelude.{◌≡◌, ℕ, List, [], reverse, Option, Some, None, true, false}
+use Rattle.node_event.specs.declared.event.Event.{Event}
+use Rattle.model.specs.User.{UserState}
+use Rattle.model.specs.Machine.{MachineState, statuses}
+use Rattle.model.specs.declared.phase.Phase.{Phase}
+use Rattle.mosix_shell.specs.Turns.{Moment, Turned, Makes, IsOver, IsUnbuilt, Story, story_of}
+use Rattle.mosix_shell.specs.declared.run.Turn.{Turn}
+use Rattle.mosix_shell.specs.declared.run.Turn.TheVariants as turns
+use Rattle.mosix_shell.specs.declared.run.Run.{Run}
+use Rattle.mosix_shell.specs.declared.run.Last.TheVariants as last
+
+abbrev pub moment : MachineState → Phase → Moment
+moment m phase = record { machine = m; phase = phase }
+
+-- an event and the moment after it; a run that is over stays as it is
+abbrev pub MakesTurn : Turn → Turned → Moment → Moment → Type 0
+MakesTurn (turns.Made what) t old new = t ≡ Makes what new
+MakesTurn turns.Over t old new = (t ≡ IsOver) × (new ≡ old)
+MakesTurn turns.Unbuilt t old new = t ≡ IsUnbuilt
+
+-- what a run tells of its last state and its events
+pub record Finishes (run : Run) (m : MachineState) (events : List Event) : Type 0 where
+  pub events_are : run.events ≡ events
+  pub statuses_are : run.statuses ≡ statuses m
+  pub terminal_is : run.terminal ≡ m.kernel.terminal
+  pub no_files : run.files ≡ []
+  pub replies_are : run.replies ≡ m.replies
+  pub done : run.last ≡ last.Done
+
+-- what a run tells of a whole story that has ended
+pub record IsRunOfStory (run : Run) (s : Story) : Type 0 where
+  pub ended : s.ended ≡ true
+  pub history : reverse run.events ≡ s.history
+  pub told : Finishes run s.last.machine run.events
+
+-- a run, none where the process does not end within one
+abbrev pub RunsTo : Option Run → UserState → Type 0
+RunsTo None u = (story_of u).ended ≡ false
+RunsTo (Some run) u = IsRunOfStory run (story_of u)

@@ -1,0 +1,37 @@
+-- The script that is built: one line, `run`, one blank and a name, with or without a newline at its end.
+use Rattle.std.specs.Prelude.{◌≡◌, ℕ, ◌+◌, ◌-◌, ◌<◌, List, [], ◌∷◌, ◌++◌, length, take, drop, Bool, false, ◌&&◌, ◌==◌, nat_le, nat_eq, if◌then◌else◌, Option, Some, None, MatchOption, slice_index, codes}
+use Rattle.std.specs.List.{starts_with, list_all}
+use Rattle.node_event.specs.declared.script.ScriptLine.{ScriptLine}
+use Rattle.node_event.specs.declared.script.Order.TheVariants.{Run}
+
+-- what was read of a source, where it tells: all of it, or that it is too long
+abbrev pub IsRead : Option (List ℕ) → Option (List ℕ) → Type 0
+IsRead None r = Unit {0}
+IsRead (Some left) r = MatchOption r (65536 < length left) (λ bytes. bytes ≡ left)
+
+-- these bytes were read, and this is left
+abbrev pub IsFront : List ℕ → List ℕ → Option (List ℕ) → Type 0
+IsFront left bytes None = ⊥
+IsFront left bytes (Some rest) = left ≡ bytes ++ rest
+
+abbrev pub IsReadOn : Option (List ℕ) → List ℕ → Option (List ℕ) → Type 0
+IsReadOn None bytes now = now ≡ None
+IsReadOn (Some left) bytes now = IsFront left bytes now
+
+-- a newline at the end is left out
+abbrev pub body_of : List ℕ → List ℕ
+body_of script = if slice_index script (length script - 1) == 10 then take (length script - 1) script else script
+
+abbrev pub is_name_byte : ℕ → Bool
+is_name_byte b = nat_le 33 b && nat_le b 126
+
+abbrev pub is_run_line : List ℕ → Bool
+is_run_line line = starts_with nat_eq line (codes "run ") && (nat_le 5 (length line) && (nat_le (length line) 1004 && list_all is_name_byte (drop 4 line)))
+
+-- the name in `run NAME`, of 1 to 1,000 bytes from 33 to 126
+abbrev pub name_in : List ℕ → Option (List ℕ)
+name_in script = if is_run_line (body_of script) then Some (drop 4 (body_of script)) else None
+
+-- the script of a name
+abbrev pub script_of : List ℕ → List ScriptLine
+script_of name = record { line = 1; order = Run (name ∷ []) } ∷ []

@@ -1,0 +1,10 @@
+// The top call: from the words to the report.
+#![tactic(auto)]
+
+pub mod mosix;
+pub mod report;
+pub mod run;
+pub mod script;
+#[cfg(test)]
+mod tests;
+pub mod words;

@@ -1,0 +1,215 @@
+// One process at home, from its launch to its end.
+ghost use Rattle.std.specs.Prelude.{◌≡◌, ◌<◌, ◌≤◌, ◌+◌, ◌++◌, ◌∷◌, [], Some, None, IfOk, OnOk, OnErr, IfSome, length, ◌^◌, true, false, reverse};
+ghost use Rattle.model.specs.User.{UserState};
+ghost use Rattle.model.specs.OnceLaw.{value_gained, way_for};
+ghost use Rattle.model.specs.Machine.{live_user};
+ghost use Rattle.mosix_shell.specs.Turns.{Moment, quantum_steps, event_after, first_event, first_moment, turn_of, go_turn, serve_turn, got_turn, served_what, story, story_of, ends};
+ghost use Rattle.mosix_shell.specs.Running.{MakesTurn, Finishes, RunsTo, moment};
+
+use call_table::{Bytes, End, ListOf, NamedFiles, NoMemory, Replies, Statuses};
+use model::phase::Phase;
+use node_event::{Event, Events, Way, What};
+use one_node::Step;
+use one_node::going::Ran;
+use one_node::home::{Applied, Feeds, Home, Setup};
+use std::alloc::Global;
+use user_ctx::{User, Users};
+
+/// How many steps a process makes in a turn at most.
+const QUANTUM: u32 = 16_384;
+
+/// A run has at most so many events after the first.
+const EVENTS: u32 = 262_143;
+
+/// The one process.
+const FIRST: u32 = 1;
+
+/// How the run itself ended.
+#[derive(Clone, Copy, Debug, PartialEq, Eq)]
+pub enum Last {
+    Done,
+    Stuck,
+    /// A node whose journal is full.
+    Full(u8),
+}
+
+/// What a run tells.
+#[derive(Drop)]
+pub struct Run {
+    pub events: Events,
+    pub statuses: Statuses,
+    pub terminal: Bytes,
+    pub files: NamedFiles,
+    pub replies: Replies,
+    pub last: Last,
+}
+
+/// What a turn came to.
+#[derive(Clone, Copy, Debug, PartialEq, Eq)]
+enum Turn {
+    Made(What),
+    /// The process has ended.
+    Over,
+    /// Its call is not built.
+    Unbuilt,
+}
+
+/// The event of a call or fault that was served.
+fn served(number: u32, value: Option<i32>, end: Option<End>) -> What
+    ensures { result ≡ What.Served 1 (way_for number) (Some number) value None end false None None }
+{
+    What::Served {
+        pid: FIRST,
+        way: if number == 0 { Way::Fell } else { Way::Did },
+        number: Some(number),
+        value,
+        taken: None,
+        end,
+        more: false,
+        poked: None,
+        poked_too: None,
+    }
+}
+
+/// The process goes: a quantum of steps, or it sends its call or fault.
+fn go(alloc: Global, home: &mut Home, phase: &mut Phase) -> Result<Turn, NoMemory>
+    requires { phase.old ≡ Phase.Goes }
+    ensures { IfOk result (λ turn. MakesTurn turn (go_turn quantum_steps home.old (live_user home.old 1)) (moment home.old phase.old) (moment home.new phase.new)) }
+{
+    match home.go(alloc, FIRST, QUANTUM)? {
+        None => Ok(Turn::Over),
+        Some(Ran::Steps(k)) => Ok(Turn::Made(What::Steps { pid: FIRST, k })),
+        Some(Ran::Asks(number)) => {
+            *phase = Phase::Waits(number);
+            Ok(Turn::Made(What::Sent { pid: FIRST, number }))
+        }
+    }
+}
+
+/// A fault is served: its process ends.
+fn fall(home: &mut Home, phase: &mut Phase) -> Turn
+    ensures { MakesTurn result (serve_turn 0 home.old) (moment home.old phase.old) (moment home.new phase.new) }
+{
+    if !home.fall(FIRST) {
+        return Turn::Unbuilt;
+    }
+    *phase = Phase::IsServed;
+    Turn::Made(served(0, None, home.ended(FIRST)))
+}
+
+/// A call is served, where it is built.
+fn serve(alloc: Global, home: &mut Home, phase: &mut Phase, number: u32) -> Result<Turn, NoMemory>
+    requires { 0 < number }
+    ensures { IfOk result (λ turn. MakesTurn turn (serve_turn number home.old) (moment home.old phase.old) (moment home.new phase.new)) }
+{
+    let Some(reply) = home.serve(alloc, FIRST)? else {
+        return Ok(Turn::Unbuilt);
+    };
+    *phase = Phase::IsServed;
+    Ok(Turn::Made(served(number, Some(reply.value), home.ended(FIRST))))
+}
+
+/// The answer is given back.
+fn got(home: &Home, phase: &mut Phase) -> Turn
+    ensures { MakesTurn result (got_turn home.now) (moment home.now phase.old) (moment home.now phase.new) }
+{
+    *phase = Phase::Goes;
+    Turn::Made(What::Got {
+        pid: FIRST,
+        child: None,
+        ended: home.ended(FIRST).is_some(),
+        kept: None,
+        to: None,
+    })
+}
+
+/// The next turn.
+fn next_turn(alloc: Global, home: &mut Home, phase: &mut Phase) -> Result<Turn, NoMemory>
+    ensures { IfOk result (λ turn. MakesTurn turn (turn_of quantum_steps (moment home.old phase.old)) (moment home.old phase.old) (moment home.new phase.new)) }
+{
+    match *phase {
+        Phase::Goes => go(alloc, home, phase),
+        Phase::Waits(0) => Ok(fall(home, phase)),
+        Phase::Waits(number) => serve(alloc, home, phase, number),
+        Phase::IsServed => Ok(got(home, phase)),
+    }
+}
+
+/// One event more.
+fn record_event(events: &mut Events, what: What) -> Result<(), NoMemory>
+    requires { length events.old < 2 ^ 40 }
+    ensures ok { OnOk result (reverse events.new ≡ event_after (reverse events.old) what ∷ reverse events.old) }
+    ensures len { OnOk result (length events.new ≡ length events.old + 1) }
+{
+    let stamp = events.len() as u64 + 1;
+    events.push(Event {
+        stamp,
+        node: 0,
+        what,
+    })?;
+    Ok(())
+}
+
+/// Home after the launch of the one process.
+fn launch(alloc: Global, user: User) -> Result<Option<Home>, NoMemory>
+    ensures { IfOk result (λ home. home ≡ Some (first_moment user).machine) }
+{
+    let mut users = Users::new(alloc);
+    users.push(user)?;
+    let setup = Setup {
+        users,
+        feeds: Feeds::new(alloc),
+    };
+    let mut home = Home::new(alloc);
+    match home.apply(alloc, &setup, &Step::Launch(0))? {
+        Applied::Did { .. } => Ok(Some(home)),
+        Applied::Not => Ok(None),
+    }
+}
+
+/// What a run tells that has ended.
+fn finish(alloc: Global, home: &Home, events: Events) -> Result<Run, NoMemory>
+    ensures { IfOk result (λ run. Finishes run home.now events) }
+{
+    let outcome = home.outcome(alloc)?;
+    Ok(Run {
+        events,
+        statuses: outcome.statuses,
+        terminal: outcome.terminal,
+        files: outcome.files,
+        replies: outcome.replies,
+        last: Last::Done,
+    })
+}
+
+/// Runs a process to its end. None exactly where it does not end within a run.
+pub fn run_process(alloc: Global, user: User) -> Result<Option<Run>, NoMemory>
+    ensures { IfOk result (λ run. RunsTo run user) }
+{
+    let Some(mut home) = launch(alloc, user)? else {
+        return Ok(None);
+    };
+    let mut phase = Phase::Goes;
+    let mut events = Events::new(alloc);
+    record_event(
+        &mut events,
+        What::Command {
+            line: 1,
+            launched: Some(FIRST),
+            unsent: None,
+            poked: None,
+        },
+    )?;
+    for _i in 0..EVENTS {
+        match next_turn(alloc, &mut home, &mut phase)? {
+            Turn::Made(what) => record_event(&mut events, what)?,
+            Turn::Over => return Ok(Some(finish(alloc, &home, events)?)),
+            Turn::Unbuilt => return Ok(None),
+        }
+    }
+    match next_turn(alloc, &mut home, &mut phase)? {
+        Turn::Made(_) => Ok(None),
+        Turn::Over => Ok(Some(finish(alloc, &home, events)?)),
+        Turn::Unbuilt => Ok(None),
+    }
+}

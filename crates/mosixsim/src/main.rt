@@ -1,0 +1,38 @@
+// The simulated cluster: reads its words and standard input, and ends with the status of the run.
+#![tactic(auto)]
+
+use call_table::{NoMemory, Text, Words};
+use mosix_shell::mosix::mosix;
+use outside::{FileImages, StdSink, StdSource};
+use std::alloc::Global;
+use std::io::ErrorKind;
+use std::process::ExitCode;
+use std::rt::Env;
+use std::{env, io};
+
+/// The words of the program without its own name. A word that is not UTF-8 makes them no words at all,
+/// which no command line is.
+fn words<R: Env + AllocGlobal>(rt: &R) -> Result<Words, NoMemory> {
+    let mut words = Words::new(rt.alloc());
+    let args = match env::args(rt) {
+        Ok(args) => args,
+        Err(e) if e.kind() == ErrorKind::OutOfMemory => return Err(NoMemory),
+        Err(_) => return Ok(words),
+    };
+    for word in args.skip(1) {
+        words.push(Text::new(rt.alloc(), word.as_str())?)?;
+    }
+    Ok(words)
+}
+
+fn main(rt: HostRuntime) -> ExitCode {
+    let alloc = rt.alloc();
+    let Ok(words) = words(&rt) else {
+        return ExitCode::from(7);
+    };
+    let mut source = StdSource::new(rt.reader());
+    let mut images = FileImages::new(rt.clone().unwrap());
+    let mut sink = StdSink::new(io::writer(&rt));
+    let ended = mosix(alloc, &words, &mut source, &mut images, &mut sink);
+    ExitCode::from(ended.status)
+}

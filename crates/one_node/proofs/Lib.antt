@@ -1,0 +1,3 @@
+pub mod Quanta
+pub mod Lives
+pub mod Plays

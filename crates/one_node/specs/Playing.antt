@@ -1,0 +1,32 @@
+-- What playing a list of steps tells.
+use Rattle.std.specs.Prelude.{◌≡◌, ℕ, ◌-◌, ◌^◌, [], List, Option, Some, None, slice_get, take, min}
+use Rattle.model.specs.User.{UserState}
+use Rattle.model.specs.Machine.{MachineState, machine_step, played, start, statuses}
+use Rattle.model.specs.declared.step.Step.{Step}
+use Rattle.one_node.specs.declared.home.Outcome.{Outcome}
+use Rattle.one_node.specs.declared.play.PlayFault.{PlayFault}
+use Rattle.one_node.specs.declared.play.PlayFault.TheVariants.{NotEnabled, NoMemory}
+
+-- what is told of a state
+pub record Tells (o : Outcome) (m : MachineState) : Type 0 where
+  pub statuses_are : o.statuses ≡ statuses m
+  pub terminal_is : o.terminal ≡ m.kernel.terminal
+  pub no_files : o.files ≡ []
+  pub replies_are : o.replies ≡ m.replies
+
+abbrev pub IsOutcomeOf : Outcome → Option MachineState → Type 0
+IsOutcomeOf o None = ⊥
+IsOutcomeOf o (Some m) = Tells o m
+
+-- the steps before one are played, and its condition fails after them
+pub record IsRefusedAt (setup : List UserState) (steps : List Step) (at : ℕ) : Type 0 where
+  pub m : MachineState
+  pub step : Step
+  pub before : played setup (take at steps) start ≡ Some m
+  pub here : slice_get steps at ≡ Some step
+  pub refused : machine_step setup step m ≡ None
+
+-- the first step that is refused, where a number can say it
+abbrev pub Fails : PlayFault → List UserState → List Step → Type 0
+Fails (NotEnabled at) setup steps = (i : ℕ) × IsRefusedAt setup steps i × (at ≡ min i (2 ^ 32 - 1))
+Fails NoMemory setup steps = Unit {0}

@@ -1,0 +1,167 @@
+// Calls on the lists that make up the system.
+ghost use Rattle.std.specs.Prelude.{Some, None, IfSome, IsSome, ◌≢◌, ◌≡◌, ◌+◌, ◌-◌, ◌<◌, ◌≤◌, ◌^◌, IfOk, OnErr, OnOk, slice_get, slice_set, length, vec_len};
+ghost use Rattle.std.specs.Option.{option_map, option_and_then};
+ghost use Rattle.model.specs.Advance.{advanced, request_of, asked_number};
+ghost use Rattle.model.specs.Machine.{Moves, served};
+ghost use Rattle.one_node.specs.Calls.{IsLive};
+ghost use Rattle.one_node.specs.Going.{Goes, GoesAt, fault_of, Serves, ServesAt};
+
+use crate::kernel::Kernel;
+use call_table::{NoMemory, Reply3};
+use std::alloc::Global;
+use user_ctx::{Stop, User};
+
+/// What a process does in a turn of its own.
+#[derive(Clone, Copy, Debug, PartialEq, Eq)]
+pub enum Ran {
+    /// It made so many steps.
+    Steps(u32),
+    /// It is at a forwarded call of this number, or at a fault, which is number 0.
+    Asks(u32),
+}
+
+/// The number of what a process asks.
+fn asked(alloc: Global, user: &User) -> Result<u32, NoMemory>
+    requires { IsSome (request_of user.now) }
+    ensures { IfOk result (λ n. asked_number (request_of user.now) ≡ Some n) }
+{
+    let request = user.request(alloc)?;
+    Ok(request.number)
+}
+
+/// At most a quantum of steps, or what the process asks.
+pub fn go(alloc: Global, user: &mut User, quantum: u32) -> Result<Ran, NoMemory>
+    requires { 1 ≤ quantum }
+    ensures { IfOk result (λ ran. Goes ran quantum user.old user.new) }
+{
+    let (went, stop) = user.run(quantum);
+    if went > 0 {
+        return Ok(Ran::Steps(went));
+    }
+    match stop {
+        Stop::Went => Ok(Ran::Steps(0)),
+        Stop::Grows => {
+            user.grow()?;
+            let (more, _) = user.run(quantum - 1);
+            Ok(Ran::Steps(more + 1))
+        }
+        Stop::AtCall => Ok(Ran::Asks(asked(alloc, user)?)),
+        Stop::Fault(_) => Ok(Ran::Asks(0)),
+    }
+}
+
+/// The same for the process at an index.
+pub fn go_at(alloc: Global, users: &mut Vec<User>, i: usize, quantum: u32) -> Result<Ran, NoMemory>
+    requires within { i < vec_len users.old }
+    requires some { 1 ≤ quantum }
+    ensures ok { IfOk result (λ ran. GoesAt ran quantum users.old.items i users.new.items) }
+    ensures len { vec_len users.new ≡ vec_len users.old }
+{
+    let user = &mut users[i];
+    match go(alloc, user, quantum) {
+        Ok(ran) => Ok(ran),
+        Err(e) => Err(e),
+    }
+}
+
+/// So many steps, if each of them goes.
+fn steps(user: &mut User, k: u32) -> Result<bool, NoMemory>
+    ensures { IfOk result (λ went. Moves went (advanced k user.old) user.new) }
+{
+    let mut done = 0;
+    while done < k {
+        let (went, stop) = user.run(k - done);
+        done += went;
+        match stop {
+            Stop::Went => return Ok(true),
+            Stop::Grows => {
+                user.grow()?;
+                done += 1;
+            }
+            Stop::AtCall => return Ok(false),
+            Stop::Fault(_) => return Ok(false),
+        }
+    }
+    Ok(true)
+}
+
+/// The same for the process at an index.
+pub fn steps_at(users: &mut Vec<User>, i: usize, k: u32) -> Result<bool, NoMemory>
+    requires { i < vec_len users.old }
+    ensures ok { IfOk result (λ went. Moves went (option_map (slice_set users.old.items i) (option_and_then (advanced k) (slice_get users.old.items i))) users.new.items) }
+    ensures len { vec_len users.new ≡ vec_len users.old }
+{
+    let user = &mut users[i];
+    match steps(user, k) {
+        Ok(went) => Ok(went),
+        Err(e) => Err(e),
+    }
+}
+
+/// The forwarded call of a live process, where it is at one that is built.
+fn serve(
+    alloc: Global,
+    kernel: &mut Kernel,
+    user: &mut User,
+    pid: u32,
+) -> Result<Option<Reply3>, NoMemory>
+    requires { IsLive kernel.old pid }
+    ensures ok { IfOk result (λ reply. Serves reply (served kernel.old pid user.old) kernel.new user.new) }
+    ensures pid { IfOk result (λ reply. IfSome reply (λ r. r.pid ≡ pid)) }
+    ensures len { length kernel.new.ends ≡ length kernel.old.ends }
+{
+    match user.step() {
+        Stop::AtCall => {}
+        Stop::Went => return Ok(None),
+        Stop::Grows => return Ok(None),
+        Stop::Fault(_) => return Ok(None),
+    }
+    let request = user.request(alloc)?;
+    let Some(answer) = kernel.serve(alloc, pid, &request)? else {
+        return Ok(None);
+    };
+    user.give(&answer);
+    Ok(Some(Reply3 {
+        pid,
+        number: request.number,
+        value: answer.value,
+    }))
+}
+
+/// The same for the process at an index.
+pub fn serve_at(
+    alloc: Global,
+    kernel: &mut Kernel,
+    users: &mut Vec<User>,
+    i: usize,
+    pid: u32,
+) -> Result<Option<Reply3>, NoMemory>
+    requires live { IsLive kernel.old pid }
+    requires within { i < vec_len users.old }
+    ensures ok { IfOk result (λ r. ServesAt r (option_and_then (served kernel.old pid) (slice_get users.old.items i)) kernel.new users.old.items i users.new.items) }
+    ensures pid { IfOk result (λ reply. IfSome reply (λ r. r.pid ≡ pid)) }
+    ensures kernel_len { length kernel.new.ends ≡ length kernel.old.ends }
+    ensures len { vec_len users.new ≡ vec_len users.old }
+{
+    let user = &mut users[i];
+    match serve(alloc, kernel, user, pid)? {
+        Some(reply) => Ok(Some(reply)),
+        None => Ok(None),
+    }
+}
+
+/// The signal of the fault that the process at an index is at. The process is as it was.
+pub fn fault_at(users: &mut Vec<User>, i: usize) -> Option<u8>
+    requires { i < vec_len users.old }
+    ensures is { result ≡ option_and_then fault_of (slice_get users.old.items i) }
+    ensures same { IfSome result (λ _. users.new.items ≡ users.old.items) }
+    ensures len { vec_len users.new ≡ vec_len users.old }
+{
+    let user = &mut users[i];
+    match user.step() {
+        Stop::Fault(signal) => Some(signal),
+        Stop::Went => None,
+        Stop::AtCall => None,
+        Stop::Grows => None,
+    }
+}

@@ -1,0 +1,10 @@
+// The plain system on one node: a kernel, the contexts of its processes and the replies of their calls.
+#![tactic(auto)]
+
+pub mod going;
+pub mod home;
+pub mod kernel;
+pub mod play;
+mod report;
+
+pub use model::step::Step;

@@ -1,0 +1,10 @@
+// The outside: what a run reads and writes, as traits, in memory, and for real.
+#![tactic(auto)]
+
+mod memory;
+mod real;
+mod traits;
+
+pub use memory::{Calls, MemImages, MemSink, MemSource};
+pub use real::{FileImages, StdSink, StdSource};
+pub use traits::{Failed, Images, LoadFault, Sink, Source};

@@ -1,0 +1,12 @@
+pub mod Maps
+pub mod Trees
+pub mod Parts
+pub mod Accesses
+pub mod Covers
+pub mod Writes
+pub mod Reading
+pub mod Edits
+pub mod Kept
+pub mod Copies
+pub mod Ranges
+pub mod Lengths

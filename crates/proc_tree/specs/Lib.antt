@@ -1,0 +1,3 @@
+pub mod Processes
+pub mod Tree
+pub mod Steps

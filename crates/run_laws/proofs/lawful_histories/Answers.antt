@@ -1,0 +1,17 @@
+use Rattle.run_laws.proofs.Stories.{hello_lawful, fork_lawful, move_lawful, break_lawful, poke_lawful}
+use Rattle.run_laws.proofs.lawful_histories.Goals as goal
+
+pub returns-clause-hello : goal.returns-clause-hello
+returns-clause-hello c = hello_lawful
+
+pub returns-clause-fork : goal.returns-clause-fork
+returns-clause-fork c = fork_lawful
+
+pub returns-clause-moved : goal.returns-clause-moved
+returns-clause-moved c = move_lawful
+
+pub returns-clause-broken : goal.returns-clause-broken
+returns-clause-broken c = break_lawful
+
+pub returns-clause-heeded : goal.returns-clause-heeded
+returns-clause-heeded c = poke_lawful

@@ -1,0 +1,152 @@
+-- A small machine, on which histories are worked out. A program is a list of steps and calls. Of the kernel it has who lives and how who ended, and one pending
+-- signal a process. Signal 9 ends, each other one is handled.
+use Rattle.std.specs.Prelude.{ℕ, zero, suc, ◌+◌, ◌==◌, ℤ, pos, negsuc, Bool, true, false, cond, Option, Some, None, List, [], ◌∷◌, length}
+use Rattle.call_table.specs.declared.process.End.{End}
+use Rattle.call_table.specs.declared.process.End.TheVariants as end
+use Rattle.node_event.specs.declared.script.ScriptLine.{ScriptLine}
+use Rattle.run_tokens.specs.Ops.{Ops, Acted}
+
+pub data Request : Type 0 where
+  ExitCall : (code : ℕ) → Request
+  ForkCall : Request
+  ReadCall : Request
+  WriteCall : (count : ℕ) → Request
+  KillCall : (pid signal : ℕ) → Request
+  FaultAt : (signal : ℕ) → Request
+
+abbrev pub number_of : Request → ℕ
+number_of (ExitCall code) = 1
+number_of ForkCall = 4
+number_of ReadCall = 8
+number_of (WriteCall count) = 9
+number_of (KillCall p s) = 14
+number_of (FaultAt s) = 0
+
+pub data Thing : Type 0 where
+  Goes : Thing
+  Calls : (request : Request) → Thing
+
+pub record Program : Type 0 where
+  pub pages : ℕ
+  pub todo : List Thing
+
+abbrev pub idle : Program
+idle = record { pages = 0; todo = [] }
+
+abbrev pub program_at : List Program → ℕ → Program
+program_at [] i = idle
+program_at (p ∷ ps) zero = p
+program_at (p ∷ ps) (suc i) = program_at ps i
+
+abbrev pub gone : List Thing → ℕ → Option (List Thing)
+gone todo zero = Some todo
+gone (Goes ∷ rest) (suc k) = gone rest k
+gone _ (suc k) = None
+
+abbrev pub with_todo : ℕ → Option (List Thing) → Option Program
+with_todo pages None = None
+with_todo pages (Some todo) = Some (record { pages = pages; todo = todo })
+
+abbrev pub asked : List Thing → Option Request
+asked (Calls r ∷ rest) = Some r
+asked _ = None
+
+abbrev pub tail_of : List Thing → List Thing
+tail_of [] = []
+tail_of (x ∷ rest) = rest
+
+abbrev pub returned : Program → Program
+returned u = record { pages = u.pages; todo = tail_of u.todo }
+
+pub record Table : Type 0 where
+  pub count : ℕ
+  pub alive : ℕ → Bool
+  pub ends : ℕ → Option End
+  pub pending : ℕ → Option ℕ
+
+abbrev pub new_table : Table
+new_table = record { count = 0; alive = λ q. false; ends = λ q. None; pending = λ q. None }
+
+abbrev pub grown : Table → Table
+grown k = record { count = k.count + 1; alive = λ q. cond (q == k.count + 1) true (k.alive q); ends = k.ends; pending = k.pending }
+
+abbrev pub ended : ℕ → End → Table → Table
+ended p how k = record { count = k.count; alive = λ q. cond (q == p) false (k.alive q); ends = λ q. cond (q == p) (Some how) (k.ends q); pending = k.pending }
+
+abbrev pub pends : ℕ → Option ℕ → Table → Table
+pends p s k = record { count = k.count; alive = k.alive; ends = k.ends; pending = λ q. cond (q == p) s (k.pending q) }
+
+-- nothing where it is not live
+abbrev pub raised_at : Bool → ℕ → ℕ → Table → Table
+raised_at true p s k = pends p (Some s) k
+raised_at false p s k = k
+
+abbrev pub hit_by : Bool → ℕ → Option ℕ
+hit_by true p = Some p
+hit_by false p = None
+
+abbrev pub plain : Table → ℤ → Acted Table ℤ
+plain k answer = record { kernel = k; answer = answer; child = None; raised = None }
+
+abbrev pub served_by : Table → ℕ → Request → Option (Acted Table ℤ)
+served_by k p (ExitCall code) = Some (plain (ended p (end.Exit code) k) (pos 0))
+served_by k p ForkCall = Some (record { kernel = grown k; answer = pos (k.count + 1); child = Some (k.count + 1); raised = None })
+served_by k p ReadCall = None
+served_by k p (WriteCall count) = Some (plain k (pos count))
+served_by k p (KillCall q s) = Some (record { kernel = raised_at (k.alive q) q s k; answer = pos 0; child = None; raised = hit_by (k.alive q) q })
+served_by k p (FaultAt s) = None
+
+abbrev pub signal_or : Option ℕ → ℕ
+signal_or None = 0
+signal_or (Some s) = s
+
+-- signal 9 ends its process
+abbrev pub taken_by : Bool → ℕ → Table → Table
+taken_by true p k = ended p (end.Signal 9) (pends p None k)
+taken_by false p k = pends p None k
+
+abbrev pub fault_of : Request → ℕ
+fault_of (FaultAt s) = s
+fault_of _ = 0
+
+abbrev pub small : List ScriptLine → List Program → Ops
+small script programs = record {
+  User = Program;
+  Kernel = Table;
+  Request = Request;
+  Answer = ℤ;
+  Taken = ℕ;
+  script = script;
+  images = length programs;
+  texts = 0;
+  loaded = λ i p. program_at programs i;
+  nodes = 2;
+  cap = 4;
+  quantum = 100;
+  went = λ u k. with_todo u.pages (gone u.todo k);
+  grows = λ u. false;
+  asks = λ u. asked u.todo;
+  number = number_of;
+  room_of = λ r. true;
+  room = λ u. true;
+  given = λ u a. returned u;
+  entered = λ u t. u;
+  forked = λ u c. returned u;
+  pages = λ u. u.pages;
+  new_kernel = new_table;
+  count = λ k. k.count;
+  live = λ k q. k.alive q;
+  end_of = λ k q. k.ends q;
+  launch = λ k. Some (grown k);
+  is_signal = λ s. true;
+  raise = λ k p s. raised_at (k.alive p) p s k;
+  hit = λ k p s. k.alive p;
+  feed = λ k i. k;
+  finish = λ k. k;
+  serve = served_by;
+  value = λ a. a;
+  broken = negsuc 3;
+  lowest = λ k p. cond (k.alive p) (k.pending p) None;
+  take = λ k p b. record { kernel = taken_by (signal_or (k.pending p) == 9) p k; taken = signal_or (k.pending p); raised = None };
+  fall = λ k p r. record { kernel = ended p (end.Signal (fault_of r)) k; raised = None };
+}

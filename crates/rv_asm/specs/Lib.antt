@@ -1,0 +1,16 @@
+pub mod Cuts
+pub mod Faults
+pub mod Keywords
+pub mod Lexing
+pub mod Lines
+pub mod Numbers
+pub mod Operands
+pub mod Registers
+pub mod Statements
+pub mod Labels
+pub mod Layout
+pub mod Assembly
+pub mod Code
+pub mod File
+pub mod Emitting
+pub mod Refusals

@@ -1,0 +1,5 @@
+use Rattle.signal_set.proofs.Settled.{kept_twice}
+use Rattle.signal_set.proofs.signals.Signals.set_mask.Goals as goal
+
+pub invariant_of-self : goal.invariant_of-self
+invariant_of-self c = record { heeded = c.self.invariant.heeded; kept = kept_twice c.args.new }

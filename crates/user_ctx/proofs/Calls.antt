@@ -1,0 +1,132 @@
+-- Calls that end where the process runs.
+use Rattle.std.proofs.Common.{◌≡◌, ◌≢◌, ◌⊎◌, inl, inr, ℕ, zero, suc, ◌+◌, ◌-◌, ◌<◌, ◌≤◌, ◌^◌, refl, ap, ◌∙◌, sym, arith, Option, Some, None, Bool, true, false, nat_le, nat_lt, cond, ◌&&◌, ◌||◌, not, ◌/◌}
+use Rattle.call_table.specs.Calls.{is_call, is_site_local}
+use Rattle.std.proofs.lemmas.Bool.Decides.{nat_tests}
+use Rattle.std.specs.Prelude.{slice_index, ◌==◌}
+use Rattle.model.specs.User.{UserState}
+use Rattle.model.specs.Request.{number_of, args_of, is_break, break_maps, with_break, is_local_call, local_call, with_value, with_brk, has_buffer, pages_with_break, page_above, lacks_page}
+use Rattle.model.specs.Instruction.{Ran, RanTo, RanAtCall, RanFaults, one_instruction}
+use Rattle.model.specs.Advance.{Done, AtCall, Faults, advance, core_of, at_call, counted, grows, is_at_ecall}
+use Rattle.user_ctx.specs.Stopping.{IsAtEcall}
+use Rattle.user_ctx.specs.Heap.{mapped_for}
+use Rattle.user_ctx.specs.Calling.{IsLocal}
+use Rattle.user_ctx.proofs.Walks.{advance_is}
+use Rattle.user_ctx.proofs.Breaks.{break_after, same_pages}
+
+at_ecall : (u : UserState) → IsAtEcall u → advance u ≡ at_call u
+at_ecall u h = advance_is u RanAtCall h.room h.ecall
+
+abbrev maps_next : UserState → Bool
+maps_next u = break_maps u (slice_index (args_of u) 0)
+
+not_full : (n : ℕ) → n < 2 ^ 26 → nat_le (2 ^ 26) n ≡ false
+not_full n h = grind (arith, nat_tests)
+
+grows_at : (u : UserState) → IsAtEcall u → grows u ≡ ((number_of u == 18) && maps_next u)
+grows_at u h =
+    ap (λ b. not b && (is_at_ecall (one_instruction (core_of u)) && ((number_of u == 18) && maps_next u))) (not_full u.count h.room)
+    ∙ ap (λ r. is_at_ecall r && ((number_of u == 18) && maps_next u)) h.ecall
+
+other : (n : ℕ) → n ≢ 18 → (n == 18) ≡ false
+other n h = grind (arith, nat_tests)
+
+still_at : (u : UserState) → IsAtEcall u → number_of u ≢ 18 → grows u ≡ false
+still_at u h n = grows_at u h ∙ ap (λ b. b && maps_next u) (other (number_of u) n)
+
+pub local : (u v : UserState) (value : ℕ) → IsAtEcall u → number_of u ≢ 18 → (is_local_call u ≡ true) × (local_call u ≡ with_value u value) → v ≡ counted (with_value u value) → (advance u ≡ Done v) × (grows u ≡ false)
+local u v value h n l is = (
+  at_ecall u h ∙ ap (λ b. cond b (Done (counted (local_call u))) AtCall) l.0 ∙ ap (λ x. Done (counted x)) l.1 ∙ ap Done (sym is),
+  still_at u h n,
+)
+
+pub forwarded : (u : UserState) → IsAtEcall u → is_local_call u ≡ false → advance u ≡ AtCall
+forwarded u h l = at_ecall u h ∙ ap (λ b. cond b (Done (counted (local_call u))) AtCall) l
+
+-- ---- brk
+
+site_brk : (n : ℕ) (b : Bool) → n ≡ 18 → (((n == 2) || (n == 18) || not (is_call n)) || b) ≡ true
+site_brk n b e = ap (λ k. ((k == 2) || (k == 18) || not (is_call k)) || b) e
+
+brk_local : (u : UserState) → number_of u ≡ 18 → is_local_call u ≡ true
+brk_local u n = site_brk (number_of u) (not (has_buffer u)) n
+
+brk_value : (n : ℕ) (u a b : UserState) → n ≡ 18 → cond (n == 2) (with_value u u.pid) (cond (n == 18) a b) ≡ a
+brk_value n u a b e = ap (λ k. cond (k == 2) (with_value u u.pid) (cond (k == 18) a b)) e
+
+brk_call : (u : UserState) → number_of u ≡ 18 → local_call u ≡ with_brk (with_break u (slice_index (args_of u) 0))
+brk_call u n = brk_value (number_of u) u (with_brk (with_break u (slice_index (args_of u) 0))) (cond (is_site_local (number_of u)) (with_value u (2 ^ 32 - 38)) (with_value u (2 ^ 32 - 14))) n
+
+pub brk_done : (u v : UserState) → IsAtEcall u → number_of u ≡ 18 → v ≡ counted (with_brk (with_break u (slice_index (args_of u) 0))) → advance u ≡ Done v
+brk_done u v h n is =
+    at_ecall u h ∙ ap (λ b. cond b (Done (counted (local_call u))) AtCall) (brk_local u n) ∙ ap (λ x. Done (counted x)) (brk_call u n) ∙ ap Done (sym is)
+
+grows_brk : (u : UserState) (b : Bool) → IsAtEcall u → number_of u ≡ 18 → maps_next u ≡ b → grows u ≡ b
+grows_brk u b h n e = grows_at u h ∙ ap (λ k. (k == 18) && maps_next u) n ∙ e
+
+not_broken : (u : UserState) (a : ℕ) → is_break u a ≡ false → with_break u a ≡ u
+not_broken u a h = ap (λ b. cond b (record u { pages = pages_with_break u.pages u.base a; brk = a }) u) h
+
+pub break_refused : (u v : UserState) (a : ℕ) → IsAtEcall u → number_of u ≡ 18 → a ≡ slice_index (args_of u) 0 → is_break u a ≡ false → v ≡ counted (with_brk u) → (advance u ≡ Done v) × (grows u ≡ false)
+break_refused u v a h n e refused is =
+    let refused2 : is_break u (slice_index (args_of u) 0) ≡ false = ap (is_break u) (sym e) ∙ refused in (
+      brk_done u v h n (is ∙ ap (λ x. counted (with_brk x)) (sym (not_broken u (slice_index (args_of u) 0) refused2))),
+      grows_brk u false h n (ap (λ b. b && lacks_page u.pages (u.base / 4096) (page_above (slice_index (args_of u) 0) - u.base / 4096)) refused2),
+    )
+
+pub break_moved : (u w v : UserState) (a : ℕ) → IsAtEcall u → number_of u ≡ 18 → a ≡ slice_index (args_of u) 0 → (is_break u a ≡ true) × (break_maps u a ≡ false) → w ≡ with_break u a → v ≡ counted (with_brk w) → (advance u ≡ Done v) × (grows u ≡ false)
+break_moved u w v a h n e fit moved is = (
+  brk_done u v h n (is ∙ ap (λ x. counted (with_brk x)) (moved ∙ ap (with_break u) e)),
+  grows_brk u false h n (ap (break_maps u) (sym e) ∙ fit.1),
+)
+
+pub break_grows : (u : UserState) (a : ℕ) → IsAtEcall u → number_of u ≡ 18 → a ≡ slice_index (args_of u) 0 → (is_break u a ≡ true) × (break_maps u a ≡ true) → grows u ≡ true
+break_grows u a h n e fit = grows_brk u true h n (ap (break_maps u) (sym e) ∙ fit.1)
+
+-- ---- growth
+
+and_left : (a b : Bool) → (a && b) ≡ true → a ≡ true
+and_left true b h = refl
+and_left false b h = h
+
+and_right : (a b : Bool) → (a && b) ≡ true → b ≡ true
+and_right true b h = h
+and_right false b h = absurd (let e : false ≡ true = h in cc)
+
+not_le : (a b : ℕ) → not (nat_le a b) ≡ true → b < a
+not_le a b h = grind (arith, nat_tests)
+
+is_eighteen : (n : ℕ) → (n == 18) ≡ true → n ≡ 18
+is_eighteen n h = grind (arith, nat_tests)
+
+at_call_of : (r : Ran) → is_at_ecall r ≡ true → r ≡ RanAtCall
+at_call_of (RanTo c) h = absurd (let e : false ≡ true = h in cc)
+at_call_of RanAtCall h = refl
+at_call_of (RanFaults signal) h = absurd (let e : false ≡ true = h in cc)
+
+pub grows_at_break : (u : UserState) → grows u ≡ true → IsAtEcall u × (number_of u ≡ 18) × (is_break u (slice_index (args_of u) 0) ≡ true)
+grows_at_break u h =
+    let inner : (is_at_ecall (one_instruction (core_of u)) && ((number_of u == 18) && maps_next u)) ≡ true = and_right (not (nat_le (2 ^ 26) u.count)) (is_at_ecall (one_instruction (core_of u)) && ((number_of u == 18) && maps_next u)) h in
+    let last : ((number_of u == 18) && maps_next u) ≡ true = and_right (is_at_ecall (one_instruction (core_of u))) ((number_of u == 18) && maps_next u) inner in
+    let a = slice_index (args_of u) 0 in (
+      record {
+        room = not_le (2 ^ 26) u.count (and_left (not (nat_le (2 ^ 26) u.count)) (is_at_ecall (one_instruction (core_of u)) && ((number_of u == 18) && maps_next u)) h);
+        ecall = at_call_of (one_instruction (core_of u)) (and_left (is_at_ecall (one_instruction (core_of u))) ((number_of u == 18) && maps_next u) inner);
+      },
+      is_eighteen (number_of u) (and_left (number_of u == 18) (maps_next u) last),
+      and_left (is_break u a) (lacks_page u.pages (u.base / 4096) (page_above a - u.base / 4096)) (and_right (number_of u == 18) (maps_next u) last),
+    )
+
+pub broken_is : (u : UserState) (a : ℕ) → is_break u a ≡ true → with_break u a ≡ record u { pages = pages_with_break u.pages u.base a; brk = a }
+broken_is u a h = ap (λ b. cond b (record u { pages = pages_with_break u.pages u.base a; brk = a }) u) h
+
+same_after : (u : UserState) (a : ℕ) → is_break u a ≡ true → with_break (mapped_for u a) a ≡ with_break u a
+same_after u a h =
+    broken_is (mapped_for u a) a (break_after u a h)
+    ∙ ap (λ x. record u { pages = x; brk = a }) (same_pages u a h)
+    ∙ sym (broken_is u a h)
+
+pub grown : (u m w v : UserState) (a : ℕ) → grows u ≡ true → a ≡ slice_index (args_of u) 0 → m ≡ mapped_for u a → w ≡ with_break m a → v ≡ counted (with_brk w) → advance u ≡ Done v
+grown u m w v a g e mapped moved is =
+    let h : IsAtEcall u × (number_of u ≡ 18) × (is_break u (slice_index (args_of u) 0) ≡ true) = grows_at_break u g in
+    let b : is_break u a ≡ true = ap (is_break u) e ∙ h.2 in
+    brk_done u v h.0 h.1 (is ∙ ap (λ x. counted (with_brk x)) (moved ∙ ap (λ x. with_break x a) mapped ∙ same_after u a b ∙ ap (with_break u) e))

@@ -1,0 +1,12 @@
+pub mod Registers
+pub mod Running
+pub mod Maps
+pub mod Heaps
+pub mod Walks
+pub mod Calls
+pub mod Breaks
+pub mod Frames
+pub mod Asking
+pub mod Rights
+pub mod Known
+pub mod Moves

@@ -1,0 +1,15 @@
+// A user process: its registers, its pages, and its steps.
+#![tactic(auto)]
+
+mod effect;
+mod frame;
+mod heap;
+mod step;
+mod stop;
+#[cfg(test)]
+mod tests;
+mod user;
+mod word;
+
+pub use stop::Stop;
+pub use user::{User, Users};

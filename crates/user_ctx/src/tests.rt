@@ -1,0 +1,530 @@
+// Worked cases, with values from the RISC-V unprivileged specification.
+use crate::{Stop, User, Users};
+use call_table::{Answer, Bytes, Kind, RIGHT_READ, RIGHT_RUN, RIGHT_WRITE};
+use page_set::Pages;
+use std::alloc::Global;
+use std::process::Abort;
+use std::test::Fail;
+
+/// Where the words of a process stand, with the right to read and execute.
+const CODE: u32 = 0x1000;
+
+/// Where the heap begins.
+const BASE: u32 = 0x1_0000;
+
+/// addi a7, x0, 1
+const SET_EXIT: u32 = 0x0010_0893;
+
+/// addi a7, x0, 18
+const SET_BRK: u32 = 0x0120_0893;
+
+const ECALL: u32 = 0x0000_0073;
+
+/// Two words, a0, a1, and what is then in a2, which is 0 at first.
+/// The bytes 80 FF 7F 01 stand at 0x3FFE, over two pages.
+const RESULTS: [(u32, u32, u32, u32, u32); 68] = [
+    // add
+    (0x00B5_0633, 0x0000_0013, 0xFFFF_FFFF, 2, 1),
+    // sub
+    (0x40B5_0633, 0x0000_0013, 0, 1, 0xFFFF_FFFF),
+    // sll by 31
+    (0x00B5_1633, 0x0000_0013, 3, 0x1F, 0x8000_0000),
+    // sll by 32 is by 0
+    (0x00B5_1633, 0x0000_0013, 3, 0x20, 3),
+    // slt of the least and the greatest
+    (0x00B5_2633, 0x0000_0013, 0x8000_0000, 0x7FFF_FFFF, 1),
+    // slt the other way
+    (0x00B5_2633, 0x0000_0013, 0x7FFF_FFFF, 0x8000_0000, 0),
+    // sltu
+    (0x00B5_3633, 0x0000_0013, 0x8000_0000, 0x7FFF_FFFF, 0),
+    // sltu the other way
+    (0x00B5_3633, 0x0000_0013, 0x7FFF_FFFF, 0x8000_0000, 1),
+    // xor
+    (
+        0x00B5_4633,
+        0x0000_0013,
+        0xF0F0_F0F0,
+        0xFF00_FF00,
+        0x0FF0_0FF0,
+    ),
+    // srl by 31
+    (0x00B5_5633, 0x0000_0013, 0x8000_0000, 0x1F, 1),
+    // srl by 33 is by 1
+    (0x00B5_5633, 0x0000_0013, 0x8000_0000, 0x21, 0x4000_0000),
+    // sra by 31
+    (0x40B5_5633, 0x0000_0013, 0x8000_0000, 0x1F, 0xFFFF_FFFF),
+    // sra by 0
+    (0x40B5_5633, 0x0000_0013, 0x8000_0000, 0, 0x8000_0000),
+    // sra of a positive number
+    (0x40B5_5633, 0x0000_0013, 0x7FFF_FFFF, 0x1E, 1),
+    // or
+    (
+        0x00B5_6633,
+        0x0000_0013,
+        0xF0F0_F0F0,
+        0xFF00_FF00,
+        0xFFF0_FFF0,
+    ),
+    // and
+    (
+        0x00B5_7633,
+        0x0000_0013,
+        0xF0F0_F0F0,
+        0xFF00_FF00,
+        0xF000_F000,
+    ),
+    // addi -1
+    (0xFFF5_0613, 0x0000_0013, 0, 0, 0xFFFF_FFFF),
+    // addi 2047
+    (0x7FF5_0613, 0x0000_0013, 0xFFFF_FFFF, 0, 0x7FE),
+    // slti -2048, at -2049
+    (0x8005_2613, 0x0000_0013, 0xFFFF_F7FF, 0, 1),
+    // slti -1, at 0
+    (0xFFF5_2613, 0x0000_0013, 0, 0, 0),
+    // sltiu -1, at 0
+    (0xFFF5_3613, 0x0000_0013, 0, 0, 1),
+    // sltiu -1, at the greatest
+    (0xFFF5_3613, 0x0000_0013, 0xFFFF_FFFF, 0, 0),
+    // xori -1
+    (0xFFF5_4613, 0x0000_0013, 0x1234_5678, 0, 0xEDCB_A987),
+    // ori -2048
+    (0x8005_6613, 0x0000_0013, 1, 0, 0xFFFF_F801),
+    // andi -16
+    (0xFF05_7613, 0x0000_0013, 0x1234_5678, 0, 0x1234_5670),
+    // slli by 31
+    (0x01F5_1613, 0x0000_0013, 1, 0, 0x8000_0000),
+    // slli by 0
+    (0x0005_1613, 0x0000_0013, 0xFFFF_FFFF, 0, 0xFFFF_FFFF),
+    // srli by 31
+    (0x01F5_5613, 0x0000_0013, 0xFFFF_FFFF, 0, 1),
+    // srli by 0
+    (0x0005_5613, 0x0000_0013, 0x8000_0000, 0, 0x8000_0000),
+    // srai by 31
+    (0x41F5_5613, 0x0000_0013, 0x8000_0000, 0, 0xFFFF_FFFF),
+    // srai by 1
+    (0x4015_5613, 0x0000_0013, 0x8000_0000, 0, 0xC000_0000),
+    // lui
+    (0xFFFF_F637, 0x0000_0013, 0, 0, 0xFFFF_F000),
+    // auipc, at 0x1000
+    (0xFFFF_F617, 0x0000_0013, 0, 0, 0),
+    // a write to x0 is lost
+    (0x0055_0013, 0x0000_0013, 7, 0, 0),
+    // fence, with other bits
+    (0x0FF0_000F, 0x0000_0013, 0, 0, 0),
+    // lb
+    (0xFFE5_0603, 0x0000_0013, 0x4000, 0, 0xFFFF_FF80),
+    // lb of a positive byte
+    (0x0005_0603, 0x0000_0013, 0x4000, 0, 0x7F),
+    // lbu
+    (0x0005_4603, 0x0000_0013, 0x3FFE, 0, 0x80),
+    // lh
+    (0x0005_1603, 0x0000_0013, 0x3FFE, 0, 0xFFFF_FF80),
+    // lh over two pages
+    (0x0005_1603, 0x0000_0013, 0x3FFF, 0, 0x7FFF),
+    // lhu
+    (0x0005_5603, 0x0000_0013, 0x3FFE, 0, 0xFF80),
+    // lw over two pages
+    (0x8015_2603, 0x0000_0013, 0x47FD, 0, 0x017F_FF80),
+    // lw, read only
+    (0x0005_2603, 0x0000_0013, 0x6000, 0, 0),
+    // jal over a word keeps the next place
+    (0x0080_066F, 0x0010_0613, 0, 0, 0x1004),
+    // jalr to 0x1009 goes to 0x1008
+    (0x0015_0667, 0x0010_0613, 0x1008, 0, 0x1004),
+    // jalr reads its register first
+    (0xFFC5_0567, 0x0005_0613, 0x1008, 0, 0x1004),
+    // beq, taken
+    (0x00B5_0463, 0x0010_0613, 0xFFFF_FFFF, 0xFFFF_FFFF, 0),
+    // beq, not taken
+    (0x00B5_0463, 0x0010_0613, 0xFFFF_FFFF, 0, 1),
+    // bne, taken
+    (0x00B5_1463, 0x0010_0613, 0xFFFF_FFFF, 0, 0),
+    // bne, not taken
+    (0x00B5_1463, 0x0010_0613, 0, 0, 1),
+    // blt, taken
+    (0x00B5_4463, 0x0010_0613, 0x8000_0000, 0x7FFF_FFFF, 0),
+    // blt, not taken
+    (0x00B5_4463, 0x0010_0613, 0x7FFF_FFFF, 0x8000_0000, 1),
+    // blt, not taken
+    (0x00B5_4463, 0x0010_0613, 5, 5, 1),
+    // bge, taken
+    (0x00B5_5463, 0x0010_0613, 0x7FFF_FFFF, 0x8000_0000, 0),
+    // bge, taken
+    (0x00B5_5463, 0x0010_0613, 5, 5, 0),
+    // bge, not taken
+    (0x00B5_5463, 0x0010_0613, 0xFFFF_FFFF, 0, 1),
+    // bltu, taken
+    (0x00B5_6463, 0x0010_0613, 0x7FFF_FFFF, 0x8000_0000, 0),
+    // bltu, not taken
+    (0x00B5_6463, 0x0010_0613, 0x8000_0000, 0x7FFF_FFFF, 1),
+    // bltu, not taken
+    (0x00B5_6463, 0x0010_0613, 5, 5, 1),
+    // bgeu, taken
+    (0x00B5_7463, 0x0010_0613, 0x8000_0000, 0x7FFF_FFFF, 0),
+    // bgeu, taken
+    (0x00B5_7463, 0x0010_0613, 5, 5, 0),
+    // bgeu, not taken
+    (0x00B5_7463, 0x0010_0613, 0, 0xFFFF_FFFF, 1),
+    // beq to an odd multiple of 2, not taken
+    (0x00B5_0363, 0x0010_0613, 1, 2, 1),
+    // sb
+    (0x00B5_0023, 0x0005_2603, 0x3000, 0x1234_5678, 0x78),
+    // sh
+    (0x00B5_10A3, 0x0005_2603, 0x3000, 0x1234_5678, 0x0056_7800),
+    // sw
+    (0x00B5_2023, 0x0005_2603, 0x3000, 0x1234_5678, 0x1234_5678),
+    // sw over two pages
+    (0x00B5_2023, 0x0005_2603, 0x3FFE, 0x1234_5678, 0x1234_5678),
+    // sh over two pages
+    (0x00B5_10A3, 0x0005_2603, 0x3FFE, 0x1234_5678, 0x0156_7880),
+];
+
+/// A word, a0, a1, and the signal of its fault.
+const FAULTS: [(u32, u32, u32, u8); 15] = [
+    // a product
+    (0x02C5_8533, 3, 5, 4),
+    // a zero word
+    (0x0000_0000, 0, 0, 4),
+    // ecall with a register
+    (0x0000_00F3, 0, 0, 4),
+    // slli with another bit
+    (0x4015_1613, 0, 0, 4),
+    // fence.i
+    (0x0000_100F, 0, 0, 4),
+    // ebreak
+    (0x0010_0073, 0, 0, 5),
+    // jal to an odd multiple of 2
+    (0x0060_066F, 0, 0, 11),
+    // jalr to an odd multiple of 2
+    (0x0005_0667, 0x1006, 0, 11),
+    // a branch that is taken there
+    (0x00B5_0363, 1, 1, 11),
+    // jal to an unmapped page, at the fetch there
+    (0x0000_166F, 0, 0, 11),
+    // lw of an unmapped page
+    (0x0005_2603, 0x5000, 0, 11),
+    // lw that ends in one
+    (0x0005_2603, 0x4FFD, 0, 11),
+    // sw to a page that is read only
+    (0x00B5_2023, 0x6000, 1, 11),
+    // sw that ends in an unmapped page
+    (0x00B5_2023, 0x4FFE, 1, 11),
+    // sb to the code
+    (0x00B5_0023, 0x1000, 1, 11),
+];
+
+/// The break goes up, down and up again, with a word stored in between and loaded at the end.
+const BREAKS: [u32; 13] = [
+    // addi a7, x0, 18
+    0x0120_0893,
+    // lui a0, 0x12
+    0x0001_2537,
+    // addi a0, a0, 1
+    0x0015_0513,
+    // ecall
+    0x0000_0073,
+    // lui a1, 0x12
+    0x0001_25B7,
+    // sw a0, 0(a1)
+    0x00A5_A023,
+    // lui a0, 0x11
+    0x0001_1537,
+    // ecall
+    0x0000_0073,
+    // lui a0, 0x13
+    0x0001_3537,
+    // ecall
+    0x0000_0073,
+    // lw a2, 0(a1)
+    0x0005_A603,
+    // addi a7, x0, 1
+    0x0010_0893,
+    // ecall
+    0x0000_0073,
+];
+
+/// Hands over four bytes, and has the answer in a2 at its exit.
+const WRITES: [u32; 6] = [
+    // addi a2, x0, 4
+    0x0040_0613,
+    // addi a7, x0, 9
+    0x0090_0893,
+    // ecall
+    0x0000_0073,
+    // addi a2, a0, 0
+    0x0005_0613,
+    // addi a7, x0, 1
+    0x0010_0893,
+    // ecall
+    0x0000_0073,
+];
+
+/// Asks for three bytes, and has the word there in a2 at its exit.
+const READS: [u32; 6] = [
+    // addi a2, x0, 3
+    0x0030_0613,
+    // addi a7, x0, 8
+    0x0080_0893,
+    // ecall
+    0x0000_0073,
+    // lw a2, 0(a1)
+    0x0005_A603,
+    // addi a7, x0, 1
+    0x0010_0893,
+    // ecall
+    0x0000_0073,
+];
+
+/// Yields, and has the answer in a2 at its exit; its handler returns.
+const HANDLES: [u32; 7] = [
+    // addi a7, x0, 19
+    0x0130_0893,
+    // ecall
+    0x0000_0073,
+    // addi a2, a0, 0
+    0x0005_0613,
+    // addi a7, x0, 1
+    0x0010_0893,
+    // ecall
+    0x0000_0073,
+    // addi a7, x0, 16, the handler at 0x1014
+    0x0100_0893,
+    // ecall
+    0x0000_0073,
+];
+
+/// Has its pid in a1, the answer of a number that no call has in a2 and that of a pipe to no page in a3 at its exit.
+const LOCALS: [u32; 12] = [
+    // addi a7, x0, 2
+    0x0020_0893,
+    // ecall
+    0x0000_0073,
+    // addi a1, a0, 0
+    0x0005_0593,
+    // addi a7, x0, 77
+    0x04D0_0893,
+    // ecall
+    0x0000_0073,
+    // addi a2, a0, 0
+    0x0005_0613,
+    // addi a0, x0, 0x600
+    0x6000_0513,
+    // addi a7, x0, 11
+    0x00B0_0893,
+    // ecall
+    0x0000_0073,
+    // addi a3, a0, 0
+    0x0005_0693,
+    // addi a7, x0, 1
+    0x0010_0893,
+    // ecall
+    0x0000_0073,
+];
+
+/// a0 at a brk, its answer, and how many pages there are then, of five at first; Grows where it maps pages.
+const LIMITS: [(u32, u32, u32, Stop); 8] = [
+    (0, BASE, 5, Stop::Went),
+    (BASE - 1, BASE, 5, Stop::Went),
+    (BASE, BASE, 5, Stop::Went),
+    (BASE + 1, BASE + 1, 6, Stop::Grows),
+    // 1,019 pages more
+    (0x40_B000, 0x40_B000, 1024, Stop::Grows),
+    (0x40_B001, BASE, 5, Stop::Went),
+    (0x7000_0000, BASE, 5, Stop::Went),
+    (0x7000_0001, BASE, 5, Stop::Went),
+];
+
+fn map(rt: &impl Abort, pages: &mut Pages, page: u32, rights: u8) {
+    assert!(rt; page < 0x10_0000 && rights < 8 && !pages.is_mapped(page));
+    assert_eq!(rt; pages.map_zero(page, rights), Ok(()));
+}
+
+/// A process at these words, with two pages of data from 0x3000 on and one to be read at 0x6000.
+fn process(rt: &impl Abort, alloc: Global, words: &[u32], a0: u32, a1: u32) -> User {
+    let mut pages = Pages::new(alloc);
+    map(rt, &mut pages, 1, RIGHT_READ | RIGHT_RUN);
+    map(rt, &mut pages, 3, RIGHT_READ | RIGHT_WRITE);
+    map(rt, &mut pages, 4, RIGHT_READ | RIGHT_WRITE);
+    map(rt, &mut pages, 6, RIGHT_READ);
+    map(rt, &mut pages, 0x7_0000, RIGHT_READ);
+    pages.write(0x3FFE, &[0x80, 0xFF, 0x7F, 0x01]);
+    let mut at = CODE;
+    for i in 0..words.len() {
+        pages.write(at, &words[i].to_le_bytes());
+        at = at.wrapping_add(4);
+    }
+    User::new(CODE, 0x5000, a0, a1, pages, BASE)
+}
+
+/// What a process has in a2 at its exit.
+fn result_of(alloc: Global, user: &mut User) -> Option<u32> {
+    match user.run(100) {
+        (_, Stop::AtCall) => match user.request(alloc) {
+            Ok(request) => Some(request.args[2]),
+            Err(_) => None,
+        },
+        _ => None,
+    }
+}
+
+#[test]
+fn each_instruction_has_its_result(rt: HostRuntime) {
+    for (first, second, a0, a1, want) in RESULTS {
+        let words = [first, second, SET_EXIT, ECALL];
+        let mut user = process(&rt, rt.alloc(), &words, a0, a1);
+        assert_eq!(rt; result_of(rt.alloc(), &mut user), Some(want), "{first}");
+    }
+}
+
+#[test]
+fn each_fault_has_its_signal(rt: HostRuntime) {
+    for (word, a0, a1, signal) in FAULTS {
+        let mut user = process(&rt, rt.alloc(), &[word], a0, a1);
+        let (went, stop) = user.run(10);
+        assert_eq!(rt; stop, Stop::Fault(signal), "{word}");
+        assert_eq!(rt; user.step(), Stop::Fault(signal));
+        assert_eq!(rt; user.count(), went);
+    }
+}
+
+#[test]
+fn a_break_has_its_limits(rt: HostRuntime) {
+    for (a0, answer, need, how) in LIMITS {
+        // the break's answer is then moved to a2
+        let words = [SET_BRK, ECALL, 0x0005_0613, SET_EXIT, ECALL];
+        let mut user = process(&rt, rt.alloc(), &words, a0, 0);
+        let (went, stop) = user.run(2);
+        if went == 1 && stop == Stop::Grows {
+            assert_eq!(rt; how, Stop::Grows, "{a0}");
+            match user.step() {
+                Stop::Grows => assert_eq!(rt; user.grow(), Ok(())),
+                _ => assert!(rt; false),
+            }
+        } else {
+            assert_eq!(rt; (went, stop, how), (2, Stop::Went, Stop::Went), "{a0}");
+        }
+        assert_eq!(rt; (user.count(), user.need()), (2, need), "{a0}");
+        assert_eq!(rt; result_of(rt.alloc(), &mut user), Some(answer), "{a0}");
+    }
+}
+
+#[test]
+fn new_pages_of_the_heap_are_zero(rt: HostRuntime) {
+    let mut user = process(&rt, rt.alloc(), &BREAKS, 0, 0);
+    for (went, need) in [(3, 8), (5, 8)] {
+        let (steps, stop) = user.run(100);
+        assert_eq!(rt; (steps, stop), (went, Stop::Grows));
+        match user.step() {
+            Stop::Grows => assert_eq!(rt; user.grow(), Ok(())),
+            _ => assert!(rt; false),
+        }
+        assert_eq!(rt; user.need(), need);
+    }
+    assert_eq!(rt; result_of(rt.alloc(), &mut user), Some(0));
+}
+
+/// Runs a process up to its forwarded call.
+fn run_to_call(rt: &impl Abort, user: &mut User) {
+    let (_, stop) = user.run(100);
+    assert_eq!(rt; stop, Stop::AtCall);
+}
+
+fn answer(alloc: Global, value: i32, bytes: &[u8], kind: Kind) -> Result<Answer, Fail> {
+    Ok(Answer {
+        value,
+        bytes: Bytes::from_slice(alloc, bytes)?,
+        kind,
+    })
+}
+
+#[test]
+fn a_write_hands_over_its_bytes(rt: HostRuntime) -> Result<(), Fail> {
+    let mut user = process(&rt, rt.alloc(), &WRITES, 1, 0x3FFE);
+    match user.run(100) {
+        (went, Stop::AtCall) => {
+            assert_eq!(rt; went, 2);
+            let request = user.request(rt.alloc())?;
+            assert_eq!(rt; (request.number, request.room), (9, true));
+            assert_eq!(rt; request.args, [1, 0x3FFE, 4, 0, 0, 0]);
+            assert_eq!(rt;
+                request.bytes.as_slice(),
+                [0x80, 0xFF, 0x7F, 0x01].as_slice()
+            );
+        }
+        _ => assert!(rt; false),
+    }
+    user.give(&answer(rt.alloc(), -9, &[], Kind::Plain)?);
+    assert_eq!(rt; user.count(), 2);
+    assert_eq!(rt; result_of(rt.alloc(), &mut user), Some(0xFFFF_FFF7));
+    Ok(())
+}
+
+#[test]
+fn a_read_is_given_its_bytes(rt: HostRuntime) -> Result<(), Fail> {
+    let mut user = process(&rt, rt.alloc(), &READS, 0, 0x3FFE);
+    run_to_call(&rt, &mut user);
+    user.give(&answer(rt.alloc(), 3, &[1, 2, 3], Kind::Plain)?);
+    assert_eq!(rt; result_of(rt.alloc(), &mut user), Some(0x0103_0201));
+    Ok(())
+}
+
+#[test]
+fn a_handler_is_entered_and_left(rt: HostRuntime) -> Result<(), Fail> {
+    let mut user = process(&rt, rt.alloc(), &HANDLES, 0, 5);
+    run_to_call(&rt, &mut user);
+    user.give(&answer(rt.alloc(), 7, &[], Kind::Plain)?);
+    assert!(rt; user.frame_room());
+    assert!(rt; user.push_frame(10, 0x1014, 0x1234, 0x42));
+    match user.run(100) {
+        (went, Stop::AtCall) => {
+            assert_eq!(rt; went, 1);
+            let request = user.request(rt.alloc())?;
+            assert_eq!(rt; (request.number, request.room), (16, true));
+            assert_eq!(rt; request.args, [0x42, 5, 0, 0, 0, 0]);
+            assert_eq!(rt; request.bytes.len(), 0);
+        }
+        _ => assert!(rt; false),
+    }
+    user.give(&answer(rt.alloc(), 0, &[], Kind::Return)?);
+    assert_eq!(rt; result_of(rt.alloc(), &mut user), Some(7));
+    Ok(())
+}
+
+#[test]
+fn a_child_goes_on_by_itself(rt: HostRuntime) -> Result<(), Fail> {
+    let mut user = process(&rt, rt.alloc(), &HANDLES, 0, 5);
+    run_to_call(&rt, &mut user);
+    let mut child = user.fork_copy(9)?;
+    let mut copy = user.copy()?;
+    user.give(&answer(rt.alloc(), 9, &[], Kind::Fork)?);
+    assert_eq!(rt; (user.pid(), child.pid(), copy.pid()), (0, 9, 0));
+    assert_eq!(rt; (child.count(), child.need()), (1, 5));
+    assert_eq!(rt; result_of(rt.alloc(), &mut user), Some(9));
+    assert_eq!(rt; result_of(rt.alloc(), &mut child), Some(0));
+    run_to_call(&rt, &mut copy);
+    assert_eq!(rt; copy.count(), 1);
+    Ok(())
+}
+
+#[test]
+fn calls_that_end_here(rt: HostRuntime) -> Result<(), Fail> {
+    let mut user = process(&rt, rt.alloc(), &LOCALS, 0, 0);
+    user.set_pid(12);
+    match user.run(100) {
+        (went, Stop::AtCall) => {
+            assert_eq!(rt; went, 11);
+            let request = user.request(rt.alloc())?;
+            assert_eq!(rt;
+                (request.args[1], request.args[2], request.args[3]),
+                (12, 0xFFFF_FFDA, 0xFFFF_FFF2)
+            );
+        }
+        _ => assert!(rt; false),
+    }
+    let mut users = Users::new(rt.alloc());
+    users.push(user)?;
+    assert_eq!(rt; users.len(), 1);
+    assert_eq!(rt; users.get(0).map(User::pid), Some(12));
+    assert!(rt; users.pop().is_some());
+    Ok(())
+}
