@@ -1,5 +1,5 @@
 // The descriptors of a kernel.
-ghost use Rattle.std.specs.Prelude.{◌≡◌, ◌≢◌, ◌<◌, ◌≤◌, ◌+◌, ◌^◌, length, Some, None, is_some, IsSome, OnSome, IfOk, OnOk, OnErr, MatchOption};
+ghost use Rattle.std.specs.Prelude.{◌≡◌, ◌≢◌, ◌<◌, ◌≤◌, ◌+◌, ◌^◌, length, Some, None, is_some, IsSome, IfSome, OnSome, IfOk, OnOk, OnErr, MatchOption};
 ghost use Rattle.id_table.specs.Places.{at_id, lowest_free};
 ghost use Rattle.fd_table.specs.Descriptors.{no_processes, description_of, look_at, slots_at, free_count, counted, end_count, launched, forked, lowest_fd, added, sought, duplicated, closed, last_target, IsFdTable};
 ghost use Rattle.fd_table.specs.Held.{looks};
@@ -105,6 +105,7 @@ impl Fds {
         requires free { 1 ≤ free_count (slots_at self.old.processes pid) }
         requires few { counted self.old.descriptions < 256 }
         ensures fd { IfOk result (λ fd. fd ≡ lowest_fd self.old pid) }
+        ensures low { IfOk result (λ fd. fd < 16) }
         ensures ok { OnOk result (self.new ≡ added self.old pid target rights) }
         ensures err { OnErr result (self.new ≡ self.old) }
     {
@@ -144,6 +145,7 @@ impl Fds {
     pub fn dup(&mut self, pid: u32, fd: u32) -> Option<u32>
         requires { IsSome (description_of self.old pid fd) }
         ensures fd { MatchOption result (free_count (slots_at self.old.processes pid) ≡ 0) (λ new. (1 ≤ free_count (slots_at self.old.processes pid)) × (new ≡ lowest_fd self.old pid)) }
+        ensures low { IfSome result (λ new. new < 16) }
         ensures new { MatchOption result (self.new ≡ self.old) (λ _. self.new ≡ duplicated self.old pid fd) }
     {
         let id = processes::slot(&self.processes, pid, fd).unwrap();

@@ -23,7 +23,7 @@ pub record IsKept (file : File) : Type 0 where
 kept_of : (files : FileTable) (id : ℕ) (file : File) → IsFileTable files → at_id files id ≡ Some file → IsKept file
 kept_of files id file t e = record { kept = t.kept id file e; small = t.small id file e }
 
-some_of : {A : Type 0} (o : Option A) → IsSome o → (x : A) × (o ≡ Some x)
+pub some_of : {A : Type 0} (o : Option A) → IsSome o → (x : A) × (o ≡ Some x)
 some_of None h = absurd (cc)
 some_of (Some x) h = (x, refl)
 
@@ -40,7 +40,7 @@ at_set files id other slot within =
       | inr ne ↦ inr (ne, get_or-set_other files id other slot None ne)
     ]
 
-table_set : (files : FileTable) (id : ℕ) (slot : Option File) → id < length files → IsFileTable files → ((name : List ℕ) → is_called name slot ≡ true → is_called name (at_id files id) ≡ true) → ((file : File) → slot ≡ Some file → IsKept file) → (has_name slot ≡ true → has_name (at_id files id) ≡ true) → IsFileTable (set files id slot)
+pub table_set : (files : FileTable) (id : ℕ) (slot : Option File) → id < length files → IsFileTable files → ((name : List ℕ) → is_called name slot ≡ true → is_called name (at_id files id) ≡ true) → ((file : File) → slot ≡ Some file → IsKept file) → (has_name slot ≡ true → has_name (at_id files id) ≡ true) → IsFileTable (set files id slot)
 table_set files id slot within t names kept few =
     let was : (other : ℕ) (name : List ℕ) → is_called name (at_id (set files id slot) other) ≡ true → is_called name (at_id files other) ≡ true =
     λ other name e. elim (at_set files id other slot within) [

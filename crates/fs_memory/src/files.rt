@@ -1,6 +1,6 @@
 // The files of a kernel.
-ghost use Rattle.std.specs.Prelude.{◌≡◌, ◌≢◌, ◌<◌, ◌≤◌, ◌+◌, ◌^◌, [], length, take, drop, Some, None, is_some, IsSome, IfSome, IfOk, OnOk, OnErr, MatchOption};
-ghost use Rattle.id_table.specs.Places.{at_id, lowest_free, filled, changed, edited};
+ghost use Rattle.std.specs.Prelude.{◌≡◌, ◌≢◌, ◌<◌, ◌≤◌, ◌+◌, ◌^◌, [], length, max, take, drop, Some, None, is_some, IsSome, IfSome, IfOk, OnOk, OnErr, MatchOption};
+ghost use Rattle.id_table.specs.Places.{at_id, lowest_free, filled, changed, edited, without};
 ghost use Rattle.fs_memory.specs.Files.{id_called, named_count, content_of, holders_of, new_file, held, released, emptied, fitting, rewritten, after_unlink, named_files, IsFileTable};
 
 use crate::file::{File, named_file};
@@ -66,6 +66,21 @@ impl Files {
         Ok(Some(id))
     }
 
+    /// How many numbers there are places for.
+    pub fn places(&self) -> usize
+        ensures { result ≡ length self.now }
+    {
+        self.files.places()
+    }
+
+    /// Takes a file away and shortens the table to so many places. It undoes a `create` in a table of that length.
+    pub fn take_back(&mut self, id: u32, places: usize)
+        requires { IsSome (at_id self.old id) }
+        ensures { self.new ≡ take places (without self.old id) }
+    {
+        let _file = self.files.take_back(id, places);
+    }
+
     /// One more holds the file.
     pub fn hold(&mut self, id: u32)
         requires there { IsSome (at_id self.old id) }
@@ -87,7 +102,8 @@ impl Files {
     /// The bytes from `at` to the end of the file, or the first `len` of them where there are more.
     pub fn read_at(&self, id: u32, at: u32, len: u32) -> Result<Bytes, NoMemory>
         requires { IsSome (at_id self.now id) }
-        ensures { IfOk result (λ b. b ≡ take len (drop at (content_of (at_id self.now id)))) }
+        ensures is { IfOk result (λ b. b ≡ take len (drop at (content_of (at_id self.now id)))) }
+        ensures within { IfOk result (λ b. at + length b ≤ max at 1048576) }
     {
         let file = self.files.get(id).unwrap();
         file.content.read(at as usize, len as usize)

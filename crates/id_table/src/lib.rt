@@ -1,7 +1,7 @@
 // Values under the lowest free number, kept in a slab.
 #![tactic(auto)]
 
-ghost use Rattle.std.specs.Prelude.{◌≡◌, ◌≢◌, ◌<◌, ◌≤◌, ◌^◌, [], Some, None, IsSome, IfOk, OnOk, OnErr, length, option_copied, is_none, position, unwrap_or};
+ghost use Rattle.std.specs.Prelude.{◌≡◌, ◌≢◌, ◌<◌, ◌≤◌, ◌^◌, [], Some, None, IsSome, IfOk, OnOk, OnErr, length, take, option_copied, is_none, position, unwrap_or};
 ghost use Rattle.std.specs.Borrow.{sem};
 ghost use Rattle.id_table.specs.Places.{at_id, lowest_free, filled, without};
 
@@ -126,6 +126,17 @@ impl<T> IdTable<T> {
         let key = key_at(&self.keys, id as usize).unwrap();
         self.keys[id as usize] = None;
         self.slots.remove(key)
+    }
+
+    /// Takes the value under `id` out and shortens the table to so many places. It undoes an `add` to a table of that length.
+    pub fn take_back(&mut self, id: u32, places: usize) -> T
+        requires { IsSome (at_id self.old id) }
+        ensures value { at_id self.old id ≡ Some result }
+        ensures new { self.new ≡ take places (without self.old id) }
+    {
+        let value = self.remove(id);
+        self.keys.truncate(places);
+        value
     }
 }
 
