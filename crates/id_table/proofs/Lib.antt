@@ -1,2 +1,3 @@
 pub mod PlaceLemmas
 mod KeyLemmas
+pub mod EditLemmas
