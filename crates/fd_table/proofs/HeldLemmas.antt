@@ -1,18 +1,18 @@
 -- What holds of every table still holds after each edit.
-use Rattle.std.proofs.Common.{◌≡◌, ◌≢◌, ◌⊎◌, inl, inr, ℕ, zero, suc, ◌+◌, ◌*◌, ◌-◌, ◌^◌, ◌<◌, ◌≤◌, Bool, true, false, cond, List, [], ◌∷◌, ◌++◌, length, take, drop, get_or, set, map, replicate, Option, Some, None, is_some, is_none, IsSome, IfSome, OnSome, nat_eq, nat_lt, refl, sym, ap, subst, ◌∙◌, arith}
-use Rattle.std.proofs.lemmas.Bool.{cases_eq, cases_lt, cases_Bool, eq-eqb, eqb-true, eqb-false, lt-ltb, le-ltb, ltb-true, ltb-false}
-use Rattle.std.proofs.lemmas.List.{get_or-set_same, get_or-set_other, length-set, length-map, map-set, set-get_or, take_more, drop-map, get_or_past}
+use Rattle.std.proofs.Common.{◌≡◌, ◌≢◌, ◌⊎◌, inl, inr, ℕ, zero, suc, ◌+◌, ◌-◌, ◌^◌, ◌<◌, ◌≤◌, Bool, true, false, cond, List, [], ◌∷◌, length, take, drop, set, replicate, Option, Some, None, is_some, IsSome, IfSome, OnSome, nat_eq, nat_lt, refl, sym, ap, subst, ◌∙◌, arith}
+use Rattle.std.proofs.lemmas.Bool.{cases_eq, cases_lt, eqb-true, eqb-false, le-ltb, ltb-false}
+use Rattle.std.proofs.lemmas.List.{get_or-set_same, get_or-set_other, length-set, length-map, map-set, set-get_or, drop-map}
 use Rattle.std.proofs.lemmas.List.Sums.{sum_by-set, sum_by-cons, sum_by_more, count_by-le-length}
-use Rattle.std.specs.List.{sum_by, count_by}
-use Rattle.std.specs.Option.{option_map, option_and_then}
+use Rattle.std.specs.List.{count_by}
+use Rattle.std.specs.Option.{option_map}
 use Rattle.id_table.specs.Places.{at_id, lowest_free, filled, changed, without, put_under}
-use Rattle.id_table.proofs.PlaceLemmas.{id_within_some, id_within, at_filled, at_filled_other, at_lowest_free, lowest_free_le}
+use Rattle.id_table.proofs.PlaceLemmas.{id_within_some, id_within, at_filled, at_filled_other, at_lowest_free}
 use Rattle.fd_table.specs.declared.description.Look.{Look}
 use Rattle.fd_table.specs.declared.description.Target.{Target}
 use Rattle.fd_table.specs.declared.description.Description.{Description}
-use Rattle.fd_table.specs.Descriptors.{Slots, Processes, FdTable, IsFdTable, slots_of, slots_at, description_of, look_up, look_at, is_for, slot_count, holder_count, with_slot, with_offset, seek_in, sought, launched, forked, added, duplicated, closed, last_target, unless_held, target_of, is_unheld, is_dropped, drop_in, lowest_fd, counted, end_count, is_end_of, free_count}
-use Rattle.fd_table.specs.Held.{HeldList, look_of, looks, more_held, less_held, moved_to, once_held, held_slot, holders_of, table_of, IsHeldTable, IsHeldBy, AreThere, has_none_left, is_dropped_at, after_let_go, target_left, is_end_held}
-use Rattle.fd_table.proofs.CountLemmas.{one_for, count_at, one_same, one_other, one_most, with_slot_is, count_with_slot, slot_cases, whole_with_slot, length-with_slot, put_cases, count_put, length-put, count_most, holder_found, holder_counts, free_is_lowest, lowest_is_free}
+use Rattle.fd_table.specs.Descriptors.{Slots, Processes, slots_of, slots_at, look_up, look_at, is_for, holder_count, with_slot, with_offset, seek_in, sought, added, duplicated, closed, last_target, unless_held, is_unheld, is_dropped, drop_in, counted, end_count, is_end_of, free_count}
+use Rattle.fd_table.specs.Held.{HeldList, look_of, looks, more_held, less_held, moved_to, once_held, held_slot, holders_of, table_of, IsHeldTable, IsHeldBy, AreThere, is_dropped_at, after_let_go, target_left, is_end_held}
+use Rattle.fd_table.proofs.CountLemmas.{one_for, one_same, one_other, count_with_slot, slot_cases, whole_with_slot, length-with_slot, put_cases, count_put, length-put, count_most, holder_found, holder_counts, free_is_lowest, lowest_is_free}
 
 some_of : {A : Type 0} (o : Option A) → IsSome o → (x : A) × (o ≡ Some x)
 some_of None h = absurd (cc)

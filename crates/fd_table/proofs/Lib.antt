@@ -1,3 +1,4 @@
 mod PlaceLemmas
 mod CountLemmas
 mod HeldLemmas
+pub mod EndLemmas

@@ -1,6 +1,6 @@
 -- Places past the first two.
-use Rattle.std.proofs.Common.{◌≡◌, ℕ, zero, suc, ◌+◌, ◌-◌, ◌<◌, ◌≤◌, List, ◌∷◌, set, get_or, Option, Some, None, IsSome, refl, sym, ap, ◌∙◌, arith}
-use Rattle.id_table.specs.Places.{at_id, lowest_free, filled, changed, without, with_value}
+use Rattle.std.proofs.Common.{◌≡◌, ℕ, zero, suc, ◌-◌, ◌≤◌, ◌∷◌, set, Option, ap, arith}
+use Rattle.id_table.specs.Places.{at_id}
 use Rattle.fd_table.specs.declared.description.Description.{Description}
 use Rattle.fd_table.specs.Held.{HeldList}
 

@@ -1,8 +1,7 @@
 -- Descriptors of processes and the descriptions that they share.
-use Rattle.std.specs.Prelude.{ℕ, ◌≡◌, ◌+◌, ◌-◌, ◌≤◌, Bool, true, false, if◌then◌else◌, nat_eq, nat_lt, List, [], ◌∷◌, length, drop, replicate, Option, Some, None, is_some, is_none, IsSome, count_by, slice_set}
+use Rattle.std.specs.Prelude.{ℕ, ◌≡◌, ◌≤◌, Bool, true, false, if◌then◌else◌, nat_eq, nat_lt, List, [], ◌∷◌, length, drop, Option, Some, None, is_some, is_none, IsSome, count_by, slice_set}
 use Rattle.std.specs.List.{sum_by}
-use Rattle.std.specs.Option.{option_and_then, option_map}
-use Rattle.id_table.specs.Places.{at_id, lowest_free, filled, with_value, without, changed, put_under}
+use Rattle.id_table.specs.Places.{at_id, lowest_free, filled, without, changed, put_under}
 use Rattle.fd_table.specs.declared.description.Look.{Look}
 use Rattle.fd_table.specs.declared.description.Target.{Target}
 use Rattle.fd_table.specs.declared.description.Target.TheVariants.{TermIn, TermOut, File, ReadEnd, WriteEnd}

@@ -1,5 +1,5 @@
 -- Descriptions with the number of their descriptors, as the table keeps them.
-use Rattle.std.specs.Prelude.{ℕ, ◌≡◌, ◌+◌, ◌-◌, ◌≤◌, ◌^◌, Bool, true, false, if◌then◌else◌, nat_eq, nat_lt, List, [], ◌∷◌, length, Option, Some, None, is_some, IsSome, count_by, map}
+use Rattle.std.specs.Prelude.{ℕ, ◌≡◌, ◌+◌, ◌-◌, ◌≤◌, ◌^◌, Bool, false, if◌then◌else◌, nat_eq, nat_lt, List, length, Option, Some, None, IsSome, map}
 use Rattle.std.specs.Option.{option_map}
 use Rattle.id_table.specs.Places.{at_id, changed, without}
 use Rattle.fd_table.specs.declared.description.Look.{Look}

@@ -1,23 +1,49 @@
--- The kernel of the calls that are built: terminal output, and how processes ended.
-use Rattle.std.specs.Prelude.{ℕ, ◌+◌, ◌-◌, ◌%◌, ◌^◌, List, [], ◌++◌, Option, Some, None, ◌==◌, ◌||◌, if◌then◌else◌, slice_index, slice_set, min, take, length, ℤ, pos, negsuc, Bool, refl}
-use Rattle.std.specs.Coded.{Coded, code_by, coded×, coded_ℕ, coded_list, coded_option}
-use Rattle.call_table.specs.declared.request.Request.{Request}
+-- The kernel: files and descriptors, the terminal, and how processes ended.
+use Rattle.std.specs.Prelude.{ℕ, ◌+◌, ◌-◌, ◌%◌, ◌^◌, List, [], ◌∷◌, ◌++◌, Option, Some, None, if◌then◌else◌, slice_set, length, ℤ, pos, Bool, false, refl}
+use Rattle.std.specs.Coded.{Coded, code_by, coded×, coded_ℕ, coded_list, coded_option, coded_bool}
 use Rattle.call_table.specs.declared.request.Answer.{Answer}
 use Rattle.call_table.specs.declared.request.Kind.TheVariants.{Plain}
 use Rattle.call_table.specs.declared.process.End.{End}
-use Rattle.call_table.specs.declared.process.End.TheVariants.{Exit, Signal}
+use Rattle.call_table.specs.declared.process.End.TheVariants.{Exit}
 use Rattle.call_table.specs.contracts.process.End as end_row
+use Rattle.fs_memory.specs.contracts.file.File as file_row
+use Rattle.fs_memory.specs.Files.{FileTable}
+use Rattle.fd_table.specs.contracts.description.Look as look_row
+use Rattle.fd_table.specs.Descriptors.{FdTable, Descriptions, Processes, launched}
+use Rattle.model.specs.Io.{IoState, IoDone, no_files, all_closed}
+
+-- what was typed and not read yet, and whether no more comes
+pub record Input : Type 0 where
+  pub bytes : List ℕ
+  pub ended : Bool
 
 pub record KernelState : Type 0 where
+  pub io : IoState
   -- what was written to the terminal
   pub terminal : List ℕ
+  pub input : Input
   -- of each process from 1 on, how it ended
   pub ends : List (Option End)
 
-abbrev pub no_process : KernelState
-no_process = record { terminal = []; ends = [] }
+abbrev pub no_input : Input
+no_input = record { bytes = []; ended = false }
 
--- what a call leaves
+abbrev pub no_process : KernelState
+no_process = record { io = no_files; terminal = []; input = no_input; ends = [] }
+
+-- one more process, with the terminal's descriptors
+abbrev pub with_process : KernelState → KernelState
+with_process k = record k {
+  io = record k.io { fds = launched k.io.fds (length k.ends + 1) };
+  ends = k.ends ++ None ∷ [];
+}
+
+-- bytes are typed; after the end they change nothing
+abbrev pub fed : List ℕ → Input → Input
+fed bytes input = record input { bytes = if input.ended then input.bytes else input.bytes ++ bytes }
+
+-- ---- what a call leaves
+
 pub record Called : Type 0 where
   pub kernel : KernelState
   pub answer : Answer
@@ -29,51 +55,49 @@ value_answer value = record { value = value; bytes = []; kind = Plain }
 abbrev pub answers : KernelState → ℤ → Called
 answers k value = record { kernel = k; answer = value_answer value }
 
--- ---- exit
+-- a call on files and descriptors alone
+abbrev pub answers_io : KernelState → IoDone → Called
+answers_io k done = answers (record k { io = done.io }) done.value
 
--- a process ends so
+-- ---- the end of a process
+
+-- a process ends so, and its descriptors are closed
 abbrev pub with_end : KernelState → ℕ → End → KernelState
-with_end k pid e = record k { ends = slice_set k.ends (pid - 1) (Some e) }
+with_end k pid e = record k { io = all_closed k.io pid; ends = slice_set k.ends (pid - 1) (Some e) }
 
 abbrev pub exited : KernelState → ℕ → ℕ → Called
 exited k pid code = answers (with_end k pid (Exit (code % 256))) (pos 0)
 
--- ---- write
-
--- the terminal holds at most 16,777,216 bytes
-abbrev pub room_of : List ℕ → ℕ
-room_of terminal = 2 ^ 24 - length terminal
-
-abbrev pub fitting : List ℕ → List ℕ → List ℕ
-fitting terminal bytes = take (min (length bytes) (room_of terminal)) bytes
-
--- as many bytes as fit; ENOSPC where the terminal is full
-abbrev pub written : KernelState → List ℕ → Called
-written k bytes =
-    if length bytes == 0 then answers k (pos 0) else
-    (if room_of k.terminal == 0 then answers k (negsuc 27)
-    else answers (record k { terminal = k.terminal ++ fitting k.terminal bytes }) (pos (min (length bytes) (room_of k.terminal))))
-
--- descriptors 1 and 2 are the terminal's output
-abbrev pub is_output : ℕ → Bool
-is_output descriptor = (descriptor == 1) || (descriptor == 2)
-
--- EBADF at any other descriptor
-abbrev pub write_result : KernelState → ℕ → List ℕ → Called
-write_result k descriptor bytes = if is_output descriptor then written k bytes else answers k (negsuc 8)
-
--- ---- a call of a process, where it is built
-
-abbrev pub call_result : KernelState → ℕ → Request → Option Called
-call_result k pid asked =
-    if asked.number == 1 then Some (exited k pid (slice_index asked.args 0)) else
-    (if asked.number == 9 then Some (write_result k (slice_index asked.args 0) asked.bytes) else None)
-
 -- ---- how these are told apart
+
+abbrev pub coded_files : Coded FileTable
+coded_files = coded_list (coded_option file_row.the_row.coded)
+
+abbrev pub coded_descriptions : Coded Descriptions
+coded_descriptions = coded_list (coded_option look_row.the_row.coded)
+
+abbrev pub coded_processes : Coded Processes
+coded_processes = coded_list (coded_option (coded_list (coded_option coded_ℕ)))
+
+abbrev pub coded_fds : Coded FdTable
+coded_fds = code_by (Descriptions × Processes) (coded× coded_descriptions coded_processes)
+    (λ t. (t.descriptions, t.processes)) (λ p. record { descriptions = p.0; processes = p.1 }) (λ _. refl)
+
+abbrev pub coded_io : Coded IoState
+coded_io = code_by (FileTable × FdTable) (coded× coded_files coded_fds)
+    (λ io. (io.files, io.fds)) (λ p. record { files = p.0; fds = p.1 }) (λ _. refl)
+
+abbrev pub coded_input : Coded Input
+coded_input = code_by (List ℕ × Bool) (coded× (coded_list coded_ℕ) coded_bool)
+    (λ i. (i.bytes, i.ended)) (λ p. record { bytes = p.0; ended = p.1 }) (λ _. refl)
 
 abbrev pub coded_ends : Coded (List (Option End))
 coded_ends = coded_list (coded_option end_row.the_row.coded)
 
+abbrev pub KernelParts : Type 0
+KernelParts = (IoState × List ℕ) × (Input × List (Option End))
+
 abbrev pub coded_kernel : Coded KernelState
-coded_kernel = code_by (List ℕ × List (Option End)) (coded× (coded_list coded_ℕ) coded_ends)
-    (λ k. (k.terminal, k.ends)) (λ p. record { terminal = p.0; ends = p.1 }) (λ _. refl)
+coded_kernel = code_by KernelParts (coded× (coded× coded_io (coded_list coded_ℕ)) (coded× coded_input coded_ends))
+    (λ k. ((k.io, k.terminal), (k.input, k.ends)))
+    (λ p. record { io = p.0.0; terminal = p.0.1; input = p.1.0; ends = p.1.1 }) (λ _. refl)

@@ -3,7 +3,10 @@ pub mod User
 pub mod Instruction
 pub mod Request
 pub mod Advance
+pub mod Errors
+pub mod Io
 pub mod Kernel
+pub mod Calls
 pub mod Machine
 pub mod Schedule
 pub mod History

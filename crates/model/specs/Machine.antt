@@ -14,7 +14,8 @@ use Rattle.call_table.specs.contracts.process.Reply3 as reply_row
 use Rattle.model.specs.User.{UserState, coded_user}
 use Rattle.model.specs.Request.{call_request, returned}
 use Rattle.model.specs.Advance.{Went, Done, AtCall, Faults, advance, advanced}
-use Rattle.model.specs.Kernel.{KernelState, Called, no_process, call_result, with_end, coded_kernel}
+use Rattle.model.specs.Kernel.{KernelState, Called, no_process, with_process, with_end, coded_kernel}
+use Rattle.model.specs.Calls.{call_result}
 use Rattle.model.specs.declared.step.Step.{Step}
 use Rattle.model.specs.declared.step.Step.TheVariants.{Launch, Steps, Do, Break, Take, Fall}
 
@@ -65,7 +66,7 @@ abbrev pub launched : Option UserState → MachineState → Option MachineState
 launched None m = None
 launched (Some u) m =
     if can_launch m
-    then Some (record { kernel = record m.kernel { ends = m.kernel.ends ++ None ∷ [] }; users = m.users ++ record u { pid = next_pid m } ∷ []; replies = m.replies })
+    then Some (record { kernel = with_process m.kernel; users = m.users ++ record u { pid = next_pid m } ∷ []; replies = m.replies })
     else None
 
 -- ---- steps

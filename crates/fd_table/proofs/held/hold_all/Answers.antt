@@ -1,5 +1,5 @@
 use Rattle.std.proofs.Common.{arith}
-use Rattle.fd_table.proofs.HeldLemmas.{next_there, next_few, next_held}
+use Rattle.fd_table.proofs.HeldLemmas.{next_there, next_held}
 use Rattle.fd_table.proofs.held.hold_all.Goals as goal
 
 pub hold_slot-requires-clause-there : goal.hold_slot-requires-clause-there

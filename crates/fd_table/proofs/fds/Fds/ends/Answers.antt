@@ -1,4 +1,4 @@
-use Rattle.std.proofs.Common.{arith, ap, sym, ◌∙◌}
+use Rattle.std.proofs.Common.{arith, ap, ◌∙◌}
 use Rattle.fd_table.specs.Descriptors.{FdTable, end_count}
 use Rattle.fd_table.proofs.HeldLemmas.{ends_fit, end_looks}
 use Rattle.fd_table.proofs.fds.Fds.ends.Goals as goal

@@ -1,5 +1,5 @@
 use Rattle.std.proofs.Common.{refl}
-use Rattle.fd_table.proofs.HeldLemmas.{few_holders, first_there, held_put, table_put}
+use Rattle.fd_table.proofs.HeldLemmas.{few_holders, first_there, held_put}
 use Rattle.fd_table.proofs.fds.Fds.launch.Goals as goal
 
 pub hold_all-requires-clause-few : goal.hold_all-requires-clause-few

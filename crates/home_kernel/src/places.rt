@@ -1,0 +1,50 @@
+// Where a seek leads.
+ghost use Rattle.std.specs.Prelude.{◌≡◌, ◌≤◌, IfSome};
+ghost use Rattle.model.specs.Io.{place_from, in_file, base_of, place_of};
+
+/// The most bytes of a file.
+pub const FILE_BYTES: u32 = 1_048_576;
+
+/// A place with a signed distance added: from 2^31 on the distance is minus what is missing to 2^32.
+fn place_from(base: u32, off: u32) -> Option<u32>
+    requires { base ≤ 1048576 }
+    ensures { result ≡ place_from base off }
+{
+    if off < 0x8000_0000 {
+        return Some(base + off);
+    }
+    base.checked_sub(off.wrapping_neg())
+}
+
+fn in_file(place: u32) -> Option<u32>
+    ensures { result ≡ in_file place }
+{
+    if place <= FILE_BYTES {
+        return Some(place);
+    }
+    None
+}
+
+/// Where a distance counts from: the start, the offset or the end.
+fn base_of(whence: u32, offset: u32, len: u32) -> Option<u32>
+    ensures { result ≡ base_of whence offset len }
+{
+    match whence {
+        0 => Some(0),
+        1 => Some(offset),
+        2 => Some(len),
+        _ => None,
+    }
+}
+
+/// The place that a seek leads to. None exactly where there is none from 0 to 1,048,576.
+pub fn place_of(whence: u32, offset: u32, len: u32, off: u32) -> Option<u32>
+    requires offset { offset ≤ 1048576 }
+    requires len { len ≤ 1048576 }
+    ensures is { result ≡ place_of whence offset len off }
+    ensures low { IfSome result (λ place. place ≤ 1048576) }
+{
+    let base = base_of(whence, offset, len)?;
+    let place = place_from(base, off)?;
+    in_file(place)
+}
