@@ -1,0 +1,29 @@
+-- What holds of every kernel.
+use Rattle.std.specs.Prelude.{◌≡◌, ◌≤◌, ◌+◌, ◌-◌, ◌^◌, ℕ, length, Option, Some, None, IsSome, count_by, is_none}
+use Rattle.id_table.specs.Places.{at_id}
+use Rattle.fs_memory.specs.Files.{FileTable, holders_of}
+use Rattle.fd_table.specs.Descriptors.{FdTable, end_count, target_of, launched, sought}
+use Rattle.fd_table.specs.declared.description.Target.TheVariants.{TermIn, TermOut, File}
+use Rattle.model.specs.Io.{IoState}
+use Rattle.model.specs.Kernel.{KernelState}
+
+abbrev pub launched_io : IoState → ℕ → IoState
+launched_io io pid = record io { fds = launched io.fds pid }
+
+abbrev pub sought_io : IoState → ℕ → ℕ → ℕ → IoState
+sought_io io pid fd offset = record io { fds = sought io.fds pid fd offset }
+
+-- a file is held by each description of it, and the first two descriptions are the terminal's
+pub record IsIo (files : FileTable) (fds : FdTable) : Type 0 where
+  pub holders : (id : ℕ) → holders_of (at_id files id) ≡ end_count (File id) fds.descriptions
+  pub input : target_of (at_id fds.descriptions 0) ≡ Some TermIn
+  pub output : target_of (at_id fds.descriptions 1) ≡ Some TermOut
+
+-- each process that was given has descriptors, and no other; at most 64 processes live, pids go to 32,767,
+-- and the terminal has at most 16,777,216 bytes
+pub record IsKernel (k : KernelState) : Type 0 where
+  pub given : (pid : ℕ) → 1 ≤ pid → pid ≤ length k.ends → IsSome (at_id k.io.fds.processes pid)
+  pub not_given : length k.io.fds.processes ≤ length k.ends + 1
+  pub few_live : count_by is_none k.ends ≤ 64
+  pub few : length k.ends ≤ 32767
+  pub shown : length k.terminal ≤ 2 ^ 24
