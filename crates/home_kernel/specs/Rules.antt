@@ -1,8 +1,9 @@
 -- What holds of every kernel.
-use Rattle.std.specs.Prelude.{◌≡◌, ◌≤◌, ◌+◌, ◌-◌, ◌^◌, ℕ, length, Option, Some, None, IsSome, count_by, is_none}
+use Rattle.std.specs.Prelude.{◌≡◌, ◌≤◌, ◌+◌, ◌^◌, ℕ, length, Option, Some, IsSome, count_by, is_none, is_some}
 use Rattle.id_table.specs.Places.{at_id}
 use Rattle.fs_memory.specs.Files.{FileTable, holders_of}
-use Rattle.fd_table.specs.Descriptors.{FdTable, end_count, target_of, launched, sought}
+use Rattle.fd_table.specs.Descriptors.{FdTable, Processes, end_count, target_of, launched, sought}
+use Rattle.fd_table.specs.declared.description.Target.{Target}
 use Rattle.fd_table.specs.declared.description.Target.TheVariants.{TermIn, TermOut, File}
 use Rattle.model.specs.Io.{IoState}
 use Rattle.model.specs.Kernel.{KernelState}
@@ -18,6 +19,19 @@ pub record IsIo (files : FileTable) (fds : FdTable) : Type 0 where
   pub holders : (id : ℕ) → holders_of (at_id files id) ≡ end_count (File id) fds.descriptions
   pub input : target_of (at_id fds.descriptions 0) ≡ Some TermIn
   pub output : target_of (at_id fds.descriptions 1) ≡ Some TermOut
+
+-- each file has as many holders as it had
+abbrev pub HaveHolders : FileTable → FileTable → Type 0
+HaveHolders old new = (id : ℕ) → holders_of (at_id new id) ≡ holders_of (at_id old id)
+
+-- a file whose last description is gone still has a holder
+abbrev pub IsHeldOnce : Option Target → FileTable → Type 0
+IsHeldOnce gone files = (id : ℕ) → gone ≡ Some (File id) → 1 ≤ holders_of (at_id files id)
+
+-- the same processes have descriptors
+pub record AreKept (old new : Processes) : Type 0 where
+  pub some : (pid : ℕ) → is_some (at_id new pid) ≡ is_some (at_id old pid)
+  pub len : length new ≡ length old
 
 -- each process that was given has descriptors, and no other; at most 64 processes live, pids go to 32,767,
 -- and the terminal has at most 16,777,216 bytes

@@ -1,17 +1,19 @@
 // Files and descriptors, and the calls on them alone.
 ghost use Rattle.std.specs.Prelude.{◌≡◌, ◌<◌, ◌≤◌, ◌+◌, length, min, Some, None, IsSome, IfOk, OnErr, OnOk};
 ghost use Rattle.id_table.specs.Places.{at_id};
-ghost use Rattle.fs_memory.specs.Files.{id_called, fitting};
+ghost use Rattle.fs_memory.specs.Files.{id_called, fitting, named_files};
 ghost use Rattle.fd_table.specs.Descriptors.{description_of, look_at};
-ghost use Rattle.model.specs.Io.{IoState, IoDone, no_files, room_error, open_found, open_absent, open_called, open_result, close_result, all_closed, seek_result, seek_to, seek_in, dup_result, unlink_result};
-ghost use Rattle.model.specs.Calls.{file_part, with_write};
-ghost use Rattle.home_kernel.specs.Rules.{launched_io, sought_io};
+ghost use Rattle.model.specs.Io.{IoState, IoDone, no_files, room_error, truncated_files, after_last, open_found, open_absent, open_called, open_result, close_result, all_closed, seek_result, seek_to, seek_in, dup_result, unlink_result};
+ghost use Rattle.model.specs.Calls.{file_part, with_write, io_row};
+ghost use Rattle.home_kernel.specs.Rules.{launched_io, sought_io, AreKept, HaveHolders, IsHeldOnce};
+ghost use Rattle.home_kernel.specs.Serving.{IoCalls};
 
-use crate::errors::{EBADF, EEXIST, EMFILE, ENFILE, ENOENT, ENOSPC, ESPIPE, EINVAL};
+use crate::answers::value_answer;
+use crate::errors::{EBADF, EEXIST, EINVAL, EMFILE, ENFILE, ENOENT, ENOSPC, ESPIPE};
 use crate::flags::{CREATE, EXCLUSIVE, TRUNCATE, flags_error, has_flag};
 use crate::names::name_error;
 use crate::places::place_of;
-use call_table::{Bytes, NamedFiles, NoMemory};
+use call_table::{Answer, Bytes, NamedFiles, NoMemory};
 use fd_table::{Fds, Look, Target};
 use fs_memory::Files;
 use std::alloc::Global;
@@ -58,6 +60,33 @@ fn room_error(fds: &Fds, pid: u32) -> Option<i32>
     None
 }
 
+/// Empties a file where the flags ask for that.
+fn truncate(files: &mut Files, id: u32, flags: u32)
+    requires { IsSome (at_id files.old id) }
+    ensures is { files.new ≡ truncated_files files.old id flags }
+    ensures there { IsSome (at_id files.new id) }
+    ensures held { HaveHolders files.old files.new }
+{
+    if has_flag(flags, TRUNCATE) {
+        files.truncate(id);
+    }
+}
+
+/// Releases the file of a description that is gone.
+fn release(files: &mut Files, gone: Option<Target>)
+    requires { IsHeldOnce gone files.old }
+    ensures { files.new ≡ after_last gone files.old }
+{
+    match gone {
+        Some(Target::File(id)) => files.release(id),
+        Some(Target::TermIn) => {}
+        Some(Target::TermOut) => {}
+        Some(Target::ReadEnd(_)) => {}
+        Some(Target::WriteEnd(_)) => {}
+        None => {}
+    }
+}
+
 impl Io {
     /// No file and no process.
     pub fn new(alloc: Global) -> Io
@@ -88,15 +117,14 @@ impl Io {
         requires room { room_error self.old.fds pid ≡ None }
         ensures ok { IfOk result (λ value. open_found self.old pid id flags ≡ record { io = self.new; value = value }) }
         ensures err { OnErr result (self.new ≡ self.old) }
+        ensures kept { AreKept self.old.fds.processes self.new.fds.processes }
     {
         if has_flag(flags, EXCLUSIVE) {
             return Ok(-EEXIST);
         }
         let rights = (flags % 4) as u8;
         let fd = self.fds.add(pid, Target::File(id), rights)?;
-        if has_flag(flags, TRUNCATE) {
-            self.files.truncate(id);
-        }
+        truncate(&mut self.files, id, flags);
         self.files.hold(id);
         Ok(fd as i32)
     }
@@ -108,6 +136,7 @@ impl Io {
         requires room { room_error self.old.fds pid ≡ None }
         ensures ok { IfOk result (λ value. open_absent self.old pid name.now flags ≡ record { io = self.new; value = value }) }
         ensures err { OnErr result (self.new ≡ self.old) }
+        ensures kept { AreKept self.old.fds.processes self.new.fds.processes }
     {
         if !has_flag(flags, CREATE) {
             return Ok(-ENOENT);
@@ -130,16 +159,11 @@ impl Io {
     }
 
     /// Opens a file, and makes it where the flags ask for that. The value is the lowest free descriptor.
-    pub fn open(
-        &mut self,
-        pid: u32,
-        len: u32,
-        name: &[u8],
-        flags: u32,
-    ) -> Result<i32, NoMemory>
+    pub fn open(&mut self, pid: u32, len: u32, name: &[u8], flags: u32) -> Result<i32, NoMemory>
         requires { IsSome (at_id self.old.fds.processes pid) }
         ensures ok { IfOk result (λ value. open_result self.old pid len name.now flags ≡ record { io = self.new; value = value }) }
         ensures err { OnErr result (self.new ≡ self.old) }
+        ensures kept { AreKept self.old.fds.processes self.new.fds.processes }
     {
         if let Some(error) = name_error(len, name) {
             return Ok(error);
@@ -164,25 +188,21 @@ impl Io {
 
     /// Closes a descriptor. A file is held by one less where the last descriptor of its description goes.
     pub fn close(&mut self, pid: u32, fd: u32) -> i32
-        ensures { close_result self.old pid fd ≡ record { io = self.new; value = result } }
+        ensures is { close_result self.old pid fd ≡ record { io = self.new; value = result } }
+        ensures kept { AreKept self.old.fds.processes self.new.fds.processes }
     {
         if self.fds.look(pid, fd).is_none() {
             return -EBADF;
         }
-        match self.fds.close(pid, fd) {
-            Some(Target::File(id)) => self.files.release(id),
-            Some(Target::TermIn) => {}
-            Some(Target::TermOut) => {}
-            Some(Target::ReadEnd(_)) => {}
-            Some(Target::WriteEnd(_)) => {}
-            None => {}
-        }
+        let gone = self.fds.close(pid, fd);
+        release(&mut self.files, gone);
         0
     }
 
     /// Closes all descriptors of a process.
     pub fn close_all(&mut self, pid: u32)
-        ensures { self.new ≡ all_closed self.old pid }
+        ensures is { self.new ≡ all_closed self.old pid }
+        ensures kept { AreKept self.old.fds.processes self.new.fds.processes }
     {
         for fd in 0..DESCRIPTORS {
             let _ = self.close(pid, fd);
@@ -192,7 +212,8 @@ impl Io {
     /// Moves the offset of a file's description, and answers it.
     fn seek_in(&mut self, pid: u32, fd: u32, look: Look, off: u32, whence: u32) -> i32
         requires { look_at self.old.fds pid fd ≡ Some look }
-        ensures { seek_in look.target look.offset self.old pid fd off whence ≡ record { io = self.new; value = result } }
+        ensures is { seek_in look.target look.offset self.old pid fd off whence ≡ record { io = self.new; value = result } }
+        ensures kept { AreKept self.old.fds.processes self.new.fds.processes }
     {
         let Target::File(id) = look.target else {
             return -ESPIPE;
@@ -208,7 +229,8 @@ impl Io {
 
     /// Moves the offset of a descriptor's description by a signed distance from the start, the offset or the end.
     pub fn seek(&mut self, pid: u32, fd: u32, off: u32, whence: u32) -> i32
-        ensures { seek_result self.old pid fd off whence ≡ record { io = self.new; value = result } }
+        ensures is { seek_result self.old pid fd off whence ≡ record { io = self.new; value = result } }
+        ensures kept { AreKept self.old.fds.processes self.new.fds.processes }
     {
         match self.fds.look(pid, fd) {
             Some(look) => self.seek_in(pid, fd, look, off, whence),
@@ -218,7 +240,8 @@ impl Io {
 
     /// Shares a descriptor's description. The value is the lowest free descriptor.
     pub fn dup(&mut self, pid: u32, fd: u32) -> i32
-        ensures { dup_result self.old pid fd ≡ record { io = self.new; value = result } }
+        ensures is { dup_result self.old pid fd ≡ record { io = self.new; value = result } }
+        ensures kept { AreKept self.old.fds.processes self.new.fds.processes }
     {
         if self.fds.look(pid, fd).is_none() {
             return -EBADF;
@@ -231,7 +254,8 @@ impl Io {
 
     /// Takes the name from a file.
     pub fn unlink(&mut self, len: u32, name: &[u8]) -> i32
-        ensures { unlink_result self.old len name.now ≡ record { io = self.new; value = result } }
+        ensures is { unlink_result self.old len name.now ≡ record { io = self.new; value = result } }
+        ensures kept { AreKept self.old.fds.processes self.new.fds.processes }
     {
         if let Some(error) = name_error(len, name) {
             return error;
@@ -247,13 +271,21 @@ impl Io {
     }
 
     /// At most so many bytes of a file, and at most 4,096, from the offset on, which moves.
-    pub fn read(&mut self, pid: u32, fd: u32, look: Look, id: u32, len: u32) -> Result<Bytes, NoMemory>
+    pub fn read(
+        &mut self,
+        pid: u32,
+        fd: u32,
+        look: Look,
+        id: u32,
+        len: u32,
+    ) -> Result<Bytes, NoMemory>
         requires here { look_at self.old.fds pid fd ≡ Some look }
         requires file { look.target ≡ Target.File id }
         ensures bytes { IfOk result (λ bytes. bytes ≡ file_part self.old.files id look.offset len) }
         ensures ok { IfOk result (λ bytes. self.new ≡ sought_io self.old pid fd (look.offset + length bytes)) }
         ensures few { IfOk result (λ bytes. length bytes ≤ 4096) }
         ensures err { OnErr result (self.new ≡ self.old) }
+        ensures kept { AreKept self.old.fds.processes self.new.fds.processes }
     {
         let bytes = self.files.read_at(id, look.offset, len.min(4096))?;
         let count = bytes.len() as u32;
@@ -277,10 +309,38 @@ impl Io {
         ensures ok { OnOk result (self.new ≡ with_write self.old pid fd id look.offset bytes.now) }
         ensures few { IfOk result (λ count. count ≤ 1048576) }
         ensures err { OnErr result (self.new ≡ self.old) }
+        ensures kept { AreKept self.old.fds.processes self.new.fds.processes }
     {
         let count = self.files.write_at(id, look.offset, bytes)?;
         self.fds.seek(pid, fd, look.offset + count);
         Ok(count)
+    }
+
+    /// A call on files and descriptors alone, by its number, its arguments and its bytes: its answer, None exactly where it is another call.
+    pub fn call(
+        &mut self,
+        alloc: Global,
+        pid: u32,
+        number: u32,
+        args: &[u32; 6],
+        bytes: &[u8],
+    ) -> Result<Option<Answer>, NoMemory>
+        requires { IsSome (at_id self.old.fds.processes pid) }
+        ensures ok { IfOk result (λ answer. IoCalls answer (io_row number self.old pid args.now bytes.now) self.old self.new) }
+        ensures err { OnErr result (self.new ≡ self.old) }
+        ensures kept { AreKept self.old.fds.processes self.new.fds.processes }
+    {
+        match number {
+            6 => match self.open(pid, args[1], bytes, args[2]) {
+                Ok(value) => return Ok(Some(value_answer(alloc, value))),
+                Err(e) => return Err(e),
+            },
+            7 => Ok(Some(value_answer(alloc, self.close(pid, args[0])))),
+            10 => Ok(Some(value_answer(alloc, self.seek(pid, args[0], args[1], args[2])))),
+            12 => Ok(Some(value_answer(alloc, self.dup(pid, args[0])))),
+            13 => Ok(Some(value_answer(alloc, self.unlink(args[1], bytes)))),
+            _ => Ok(None),
+        }
     }
 
     /// All named files, by the bytes of their names.

@@ -1,6 +1,7 @@
 // The kernel at the home: files, descriptors, the terminal and the ends of processes, and all calls on them.
 #![tactic(auto)]
 
+mod answers;
 mod errors;
 mod flags;
 mod io;

@@ -6,21 +6,23 @@ ghost use Rattle.model.specs.Io.{place_from, in_file, base_of, place_of};
 pub const FILE_BYTES: u32 = 1_048_576;
 
 /// A place with a signed distance added: from 2^31 on the distance is minus what is missing to 2^32.
-fn place_from(base: u32, off: u32) -> Option<u32>
-    requires { base ≤ 1048576 }
+fn place_from(base: u32, off: u32) -> Option<u64>
     ensures { result ≡ place_from base off }
 {
+    let base = u64::from(base);
+    let off = u64::from(off);
     if off < 0x8000_0000 {
         return Some(base + off);
     }
-    base.checked_sub(off.wrapping_neg())
+    base.checked_sub(0x1_0000_0000 - off)
 }
 
-fn in_file(place: u32) -> Option<u32>
-    ensures { result ≡ in_file place }
+fn in_file(place: u64) -> Option<u32>
+    ensures is { result ≡ in_file place }
+    ensures low { IfSome result (λ place. place ≤ 1048576) }
 {
-    if place <= FILE_BYTES {
-        return Some(place);
+    if place <= u64::from(FILE_BYTES) {
+        return Some(place as u32);
     }
     None
 }
@@ -39,8 +41,6 @@ fn base_of(whence: u32, offset: u32, len: u32) -> Option<u32>
 
 /// The place that a seek leads to. None exactly where there is none from 0 to 1,048,576.
 pub fn place_of(whence: u32, offset: u32, len: u32, off: u32) -> Option<u32>
-    requires offset { offset ≤ 1048576 }
-    requires len { len ≤ 1048576 }
     ensures is { result ≡ place_of whence offset len off }
     ensures low { IfSome result (λ place. place ≤ 1048576) }
 {

@@ -1,6 +1,7 @@
 -- A call of a process, where it is built.
 use Rattle.std.specs.Prelude.{ℕ, ◌+◌, ◌-◌, ◌/◌, ◌%◌, ◌^◌, List, [], ◌∷◌, ◌++◌, Option, Some, None, ◌==◌, ◌||◌, if◌then◌else◌, slice_index, min, take, drop, length, pos, Bool, nat_le}
 use Rattle.std.specs.List.{list_any}
+use Rattle.std.specs.Option.{option_map}
 use Rattle.call_table.specs.declared.request.Request.{Request}
 use Rattle.call_table.specs.declared.request.Answer.{Answer}
 use Rattle.call_table.specs.declared.request.Kind.TheVariants.{Plain}
@@ -11,7 +12,7 @@ use Rattle.fd_table.specs.declared.description.Look.{Look}
 use Rattle.fd_table.specs.declared.description.Target.{Target}
 use Rattle.fd_table.specs.declared.description.Target.TheVariants.{TermIn, TermOut, File, ReadEnd, WriteEnd}
 use Rattle.model.specs.Errors.{EBADF, EFBIG, ENOSPC}
-use Rattle.model.specs.Io.{IoState, open_result, close_result, seek_result, dup_result, unlink_result}
+use Rattle.model.specs.Io.{IoState, IoDone, open_result, close_result, seek_result, dup_result, unlink_result}
 use Rattle.model.specs.Kernel.{KernelState, Input, Called, answers, answers_io, exited}
 
 -- ---- read
@@ -125,18 +126,23 @@ built_calls = 1 ∷ 6 ∷ 7 ∷ 8 ∷ 9 ∷ 10 ∷ 12 ∷ 13 ∷ 19 ∷ []
 abbrev pub is_built : ℕ → Bool
 is_built number = list_any (λ n. n == number) built_calls
 
+-- a call on files and descriptors alone
+abbrev pub io_row : ℕ → IoState → ℕ → List ℕ → List ℕ → Option IoDone
+io_row number io pid args bytes =
+    if number == 6 then Some (open_result io pid (slice_index args 1) bytes (slice_index args 2)) else
+    (if number == 7 then Some (close_result io pid (slice_index args 0)) else
+    (if number == 10 then Some (seek_result io pid (slice_index args 0) (slice_index args 1) (slice_index args 2)) else
+    (if number == 12 then Some (dup_result io pid (slice_index args 0)) else
+    (if number == 13 then Some (unlink_result io (slice_index args 1) bytes) else None))))
+
 -- what a call leaves, none where it blocks or is not built
 abbrev pub call_row : ℕ → KernelState → ℕ → List ℕ → List ℕ → Option Called
 call_row number k pid args bytes =
     if number == 1 then Some (exited k pid (slice_index args 0)) else
-    (if number == 6 then Some (answers_io k (open_result k.io pid (slice_index args 1) bytes (slice_index args 2))) else
-    (if number == 7 then Some (answers_io k (close_result k.io pid (slice_index args 0))) else
     (if number == 8 then read_result k pid (slice_index args 0) (slice_index args 2) else
     (if number == 9 then write_result k pid (slice_index args 0) bytes else
-    (if number == 10 then Some (answers_io k (seek_result k.io pid (slice_index args 0) (slice_index args 1) (slice_index args 2))) else
-    (if number == 12 then Some (answers_io k (dup_result k.io pid (slice_index args 0))) else
-    (if number == 13 then Some (answers_io k (unlink_result k.io (slice_index args 1) bytes)) else
-    (if number == 19 then Some (answers k (pos 0)) else None))))))))
+    (if number == 19 then Some (answers k (pos 0)) else
+    option_map (answers_io k) (io_row number k.io pid args bytes))))
 
 abbrev pub call_result : KernelState → ℕ → Request → Option Called
 call_result k pid asked = call_row asked.number k pid asked.args asked.bytes

@@ -73,8 +73,11 @@ with_open io pid id rights = record { files = changed io.files id held; fds = ad
 abbrev pub opened : IoState → ℕ → ℕ → ℕ → IoDone
 opened io pid id flags = gives (with_open io pid id (flags % 4)) (lowest_fd io.fds pid)
 
+abbrev pub truncated_files : FileTable → ℕ → ℕ → FileTable
+truncated_files files id flags = if has_flag flags 8 then changed files id emptied else files
+
 abbrev pub truncated : IoState → ℕ → ℕ → IoState
-truncated io id flags = record io { files = if has_flag flags 8 then changed io.files id emptied else io.files }
+truncated io id flags = record io { files = truncated_files io.files id flags }
 
 abbrev pub with_new : IoState → List ℕ → IoState
 with_new io name = record io { files = filled io.files (new_file name) }

@@ -1,0 +1,4 @@
+mod Holding
+mod Growing
+mod Closing
+mod Lifting
