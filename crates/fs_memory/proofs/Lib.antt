@@ -3,3 +3,4 @@ mod ContentLemmas
 mod FileLemmas
 mod SearchLemmas
 mod TableLemmas
+pub mod HolderLemmas
