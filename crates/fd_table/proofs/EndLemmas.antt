@@ -1,18 +1,18 @@
 -- How many descriptions have a target, and which are there, after each edit of the table.
-use Rattle.std.proofs.Common.{◌≡◌, ◌≢◌, ◌⊎◌, inl, inr, ℕ, zero, suc, ◌+◌, ◌-◌, ◌<◌, ◌≤◌, Bool, true, false, cond, [], ◌∷◌, length, set, Option, Some, None, is_some, IsSome, nat_eq, nat_lt, refl, sym, ap, ◌∙◌, arith}
+use Rattle.std.proofs.Common.{◌≡◌, ◌≢◌, ◌⊎◌, inl, inr, ℕ, zero, suc, ◌+◌, ◌-◌, ◌<◌, ◌≤◌, Bool, true, false, cond, [], ◌∷◌, length, set, Option, Some, None, is_some, is_none, IsSome, nat_eq, nat_lt, refl, sym, ap, ◌∙◌, arith}
 use Rattle.std.proofs.lemmas.Bool.{cases_eq, cases_lt, cases_Bool, eq-eqb, eqb-true, ltb-true, ltb-false}
 use Rattle.std.proofs.lemmas.List.{get_or_past, set_past, set-get_or, get_or-set_same, get_or-set_other}
 use Rattle.std.proofs.lemmas.List.Sums.{sum_by-set, sum_by-cons}
 use Rattle.std.specs.List.{count_by}
 use Rattle.std.specs.Option.{option_map}
 use Rattle.id_table.specs.Places.{at_id, lowest_free, filled, changed, without}
-use Rattle.id_table.proofs.PlaceLemmas.{id_within}
+use Rattle.id_table.proofs.PlaceLemmas.{id_within, at_filled, at_lowest_free}
 use Rattle.id_table.proofs.EditLemmas.{at_changed, at_changed_other, some_changed, at_gone, filled_cases, filled_kept, at_put, at_put_other, length-put}
 use Rattle.fd_table.specs.declared.description.Look.{Look}
 use Rattle.fd_table.specs.declared.description.Target.{Target}
 use Rattle.fd_table.specs.declared.description.Target.TheVariants.{TermIn, TermOut, File, ReadEnd, WriteEnd}
-use Rattle.fd_table.specs.Descriptors.{Slots, Processes, Descriptions, FdTable, IsFdTable, slots_of, slots_at, description_of, look_up, look_at, counted, same_target, is_end_of, end_count, with_slot, first_slots, launched, forked, lowest_fd, added, with_offset, seek_in, sought, duplicated, is_unheld, is_dropped, drop_in, closed, target_of, unless_held, last_target, no_processes}
-use Rattle.fd_table.proofs.CountLemmas.{length-with_slot}
+use Rattle.fd_table.specs.Descriptors.{Slots, Processes, Descriptions, FdTable, IsFdTable, slots_of, slots_at, description_of, look_up, look_at, free_count, counted, same_target, is_end_of, end_count, with_slot, first_slots, launched, forked, lowest_fd, added, with_offset, seek_in, sought, duplicated, is_unheld, is_dropped, drop_in, closed, target_of, unless_held, last_target, no_processes}
+use Rattle.fd_table.proofs.CountLemmas.{length-with_slot, free_is_lowest}
 
 -- ---- equal targets
 
@@ -120,6 +120,21 @@ added_is table pid target rights id found e = filled_is table.descriptions (reco
 
 pub added_kept : (table : FdTable) (pid : ℕ) (target : Target) (rights id : ℕ) (old : Look) → at_id table.descriptions id ≡ Some old → at_id (added table pid target rights).descriptions id ≡ Some old
 added_kept table pid target rights id old e = filled_kept table.descriptions (record { target = target; rights = rights; offset = 0 }) old id e
+
+count_filled : (descriptions : Descriptions) (look : Look) → count_by is_some (filled descriptions look) ≡ count_by is_some descriptions + 1
+count_filled [] look = refl
+count_filled (None ∷ rest) look = omega (arith, sum_by-cons (λ o. cond (is_some o) 1 0) (Some look) rest, sum_by-cons (λ o. cond (is_some o) 1 0) None rest)
+count_filled (Some other ∷ rest) look = omega (arith, sum_by-cons (λ o. cond (is_some o) 1 0) (Some other) rest, sum_by-cons (λ o. cond (is_some o) 1 0) (Some other) (filled rest look), count_filled rest look)
+
+counted_filled : (descriptions : Descriptions) (look : Look) → IsSome (at_id descriptions 0) → IsSome (at_id descriptions 1) → counted (filled descriptions look) ≡ counted descriptions + 1
+counted_filled [] look input output = absurd (cc)
+counted_filled (None ∷ rest) look input output = absurd (cc)
+counted_filled (Some a ∷ []) look input output = absurd (cc)
+counted_filled (Some a ∷ None ∷ rest) look input output = absurd (cc)
+counted_filled (Some a ∷ Some b ∷ rest) look input output = count_filled rest look
+
+pub counted_added : (table : FdTable) (pid : ℕ) (target : Target) (rights : ℕ) → IsFdTable table → counted (added table pid target rights).descriptions ≡ counted table.descriptions + 1
+counted_added table pid target rights t = counted_filled table.descriptions (record { target = target; rights = rights; offset = 0 }) t.terminals.1 t.terminals.2
 
 -- ---- an offset that moves
 
@@ -428,3 +443,45 @@ some_forked table parent child other there =
       | inl same ↦ ap (λ k. is_some (at_id (forked table parent child).processes k)) same ∙ ap is_some (at_forked table parent child)
       | inr ne ↦ ap is_some (at_forked_other table parent child other ne) ∙ there
     ]
+
+-- ---- descriptors of a process
+
+-- a descriptor that is written, where the process has a place for it
+pub fd_written : (processes : Processes) (pid fd : ℕ) (slot : Option ℕ) → IsSome (at_id processes pid) → fd < length (slots_at processes pid) → at_id (slots_at (with_slot processes pid fd slot) pid) fd ≡ slot
+fd_written processes pid fd slot there within =
+    ap (λ place. at_id (slots_of place) fd) (get_or-set_same processes pid (Some (set (slots_at processes pid) fd slot)) None (id_within processes pid there))
+    ∙ get_or-set_same (slots_at processes pid) fd slot None within
+
+pub fd_written_other : (processes : Processes) (pid fd : ℕ) (slot : Option ℕ) (p f : ℕ) → IsSome (at_id processes pid) → (p ≢ pid) ⊎ (f ≢ fd) → at_id (slots_at (with_slot processes pid fd slot) p) f ≡ at_id (slots_at processes p) f
+fd_written_other processes pid fd slot p f there (inl ne) = ap (λ place. at_id (slots_of place) f) (get_or-set_other processes pid p (Some (set (slots_at processes pid) fd slot)) None ne)
+fd_written_other processes pid fd slot p f there (inr ne) =
+    let new : Option Slots = Some (set (slots_at processes pid) fd slot) in
+    elim (cases_eq p pid) [
+      | inl same ↦
+          ap (λ k. at_id (slots_at (set processes pid new) k) f) same
+          ∙ ap (λ place. at_id (slots_of place) f) (get_or-set_same processes pid new None (id_within processes pid there))
+          ∙ get_or-set_other (slots_at processes pid) fd f slot None ne ∙ sym (ap (λ k. at_id (slots_at processes k) f) same)
+      | inr apart ↦ ap (λ place. at_id (slots_of place) f) (get_or-set_other processes pid p new None apart)
+    ]
+
+pub fd_added : (table : FdTable) (pid : ℕ) (target : Target) (rights : ℕ) → IsSome (at_id table.processes pid) → 1 ≤ free_count (slots_at table.processes pid) → description_of (added table pid target rights) pid (lowest_fd table pid) ≡ Some (lowest_free table.descriptions)
+fd_added table pid target rights there free = fd_written table.processes pid (lowest_fd table pid) (Some (lowest_free table.descriptions)) there (free_is_lowest (slots_at table.processes pid) free)
+
+pub look_added : (table : FdTable) (pid : ℕ) (target : Target) (rights : ℕ) → IsSome (at_id table.processes pid) → 1 ≤ free_count (slots_at table.processes pid) → look_at (added table pid target rights) pid (lowest_fd table pid) ≡ Some (record { target = target; rights = rights; offset = 0 })
+look_added table pid target rights there free =
+    let look : Look = record { target = target; rights = rights; offset = 0 } in
+    ap (look_up (filled table.descriptions look)) (fd_added table pid target rights there free) ∙ at_filled table.descriptions look
+
+pub fd_closed : (table : FdTable) (pid fd : ℕ) → IsFdTable table → IsSome (description_of table pid fd) → description_of (closed table pid fd) pid fd ≡ None
+fd_closed table pid fd t there =
+    fd_written table.processes pid fd None (process_of_fd table pid fd there) (id_within (slots_at table.processes pid) fd there)
+
+-- one descriptor less is free after one is added
+pub free_added : (table : FdTable) (pid : ℕ) (target : Target) (rights : ℕ) → IsSome (at_id table.processes pid) → 1 ≤ free_count (slots_at table.processes pid) → free_count (slots_at (added table pid target rights).processes pid) + 1 ≡ free_count (slots_at table.processes pid)
+free_added table pid target rights there free =
+    let slots = slots_at table.processes pid in
+    let slot : Option ℕ = Some (lowest_free table.descriptions) in
+    let within = free_is_lowest slots free in
+    let is : slots_at (added table pid target rights).processes pid ≡ set slots (lowest_free slots) slot = ap slots_of (get_or-set_same table.processes pid (Some (set slots (lowest_free slots) slot)) None (id_within table.processes pid there)) in
+    let was : ◌≡◌ {A = ℕ} (cond (is_none (at_id slots (lowest_free slots))) 1 0) 1 = ap (λ (o : Option ℕ). let one : ℕ = 1 in cond (is_none o) one 0) (at_lowest_free slots) in
+    omega (arith, sum_by-set (λ o. cond (is_none o) 1 0) slots (lowest_free slots) slot None within, ap free_count is, was)

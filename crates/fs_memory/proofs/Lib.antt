@@ -4,3 +4,4 @@ mod FileLemmas
 mod SearchLemmas
 mod TableLemmas
 mod BackLemmas
+pub mod HolderLemmas
