@@ -274,6 +274,7 @@ impl Kernel {
     }
 
     /// A call by its number: its answer, None where it blocks or is not built.
+    #[tactic(auto, unfolding(model::specs::Calls::call_row))]
     fn call(
         &mut self,
         alloc: Global,

@@ -136,7 +136,7 @@ io_row number io pid args bytes =
     (if number == 13 then Some (unlink_result io (slice_index args 1) bytes) else None))))
 
 -- what a call leaves, none where it blocks or is not built
-abbrev pub call_row : ℕ → KernelState → ℕ → List ℕ → List ℕ → Option Called
+unfoldable pub call_row : ℕ → KernelState → ℕ → List ℕ → List ℕ → Option Called
 call_row number k pid args bytes =
     if number == 1 then Some (exited k pid (slice_index args 0)) else
     (if number == 8 then read_result k pid (slice_index args 0) (slice_index args 2) else

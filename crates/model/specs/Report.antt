@@ -1,6 +1,7 @@
 -- The text of a run.
 use Rattle.std.specs.Prelude.{ℕ, ◌+◌, List, [], ◌∷◌, ◌++◌, length, codes}
 use Rattle.std.specs.Fmt.{decimal}
+use Rattle.call_table.specs.declared.files.Named.{Named}
 use Rattle.call_table.specs.declared.process.PidState.{PidState}
 use Rattle.call_table.specs.declared.process.PidState.TheVariants.{Exit, Signal, Blocked, Live}
 
@@ -20,6 +21,21 @@ abbrev pub status_lines : List (ℕ × PidState) → List ℕ
 status_lines [] = []
 status_lines (s ∷ rest) = status_line s ++ status_lines rest
 
--- the terminal's bytes, a line for each process, and how the run ended
-abbrev pub report_text : List ℕ → List (ℕ × PidState) → List ℕ
-report_text terminal statuses = terminal_line (length terminal) ++ terminal ++ 10 ∷ [] ++ status_lines statuses ++ codes "done\n"
+abbrev pub length_text : ℕ → List ℕ
+length_text len = codes " " ++ decimal len ++ 10 ∷ []
+
+abbrev pub file_line : Named → List ℕ
+file_line file = codes "file " ++ file.name ++ length_text (length file.bytes)
+
+-- a line for a file, its bytes and a newline
+abbrev pub file_text : Named → List ℕ
+file_text file = file_line file ++ file.bytes ++ 10 ∷ []
+
+abbrev pub file_texts : List Named → List ℕ
+file_texts [] = []
+file_texts (file ∷ rest) = file_text file ++ file_texts rest
+
+-- the terminal's bytes, a line for each process, each named file, and how the run ended
+abbrev pub report_text : List ℕ → List (ℕ × PidState) → List Named → List ℕ
+report_text terminal statuses files =
+    terminal_line (length terminal) ++ terminal ++ 10 ∷ [] ++ status_lines statuses ++ file_texts files ++ codes "done\n"

@@ -115,7 +115,7 @@ pub over_run : (run : Run) (u : UserState) (n : ℕ) (events : List Event) (now 
     → IsRunOfStory run (story_of u)
 over_run run u n events now after left over same f =
     let s : story_of u ≡ record { history = reverse events; last = now; ended = true } = sym left ∙ story_over quantum_steps n (reverse events) now over in
-    let own : Finishes run after.machine run.events = record { events_are = refl; statuses_are = f.statuses_are; terminal_is = f.terminal_is; no_files = f.no_files; replies_are = f.replies_are; done = f.done } in
+    let own : Finishes run after.machine run.events = record { events_are = refl; statuses_are = f.statuses_are; terminal_is = f.terminal_is; files_are = f.files_are; replies_are = f.replies_are; done = f.done } in
     record {
       ended = ap (λ (x : Story). x.ended) s;
       history = ap reverse f.events_are ∙ ap (λ (x : Story). x.history) (sym s);

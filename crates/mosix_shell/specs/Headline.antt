@@ -1,6 +1,7 @@
 -- The headline of a run: its own events, played on one node, give what it tells, and they are lawful.
 use Rattle.std.specs.Prelude.{◌≡◌, ℕ, List, [], ◌∷◌, reverse, Option, Some, true}
 use Rattle.node_event.specs.declared.script.ScriptLine.{ScriptLine}
+use Rattle.fs_memory.specs.Files.{named_files}
 use Rattle.model.specs.User.{UserState}
 use Rattle.model.specs.Machine.{MachineState, play, statuses, have_ended}
 use Rattle.model.specs.Schedule.{schedule}
@@ -17,7 +18,7 @@ pub record Replays (setup : List UserState) (script : List ScriptLine) (run : Ru
   pub plays : play setup (schedule script run.events) ≡ Some m
   pub statuses_are : run.statuses ≡ statuses m
   pub terminal_is : run.terminal ≡ m.kernel.terminal
-  pub no_files : run.files ≡ []
+  pub files_are : run.files ≡ named_files m.kernel.io.files
   pub replies_are : run.replies ≡ m.replies
   -- the run is done, and every process has ended
   pub done : run.last ≡ last.Done

@@ -1,6 +1,7 @@
 -- What the answers of the run's parts tell.
 use Rattle.std.specs.Prelude.{◌≡◌, ℕ, List, [], reverse, Option, Some, None, true, false}
 use Rattle.node_event.specs.declared.event.Event.{Event}
+use Rattle.fs_memory.specs.Files.{named_files}
 use Rattle.model.specs.User.{UserState}
 use Rattle.model.specs.Machine.{MachineState, statuses}
 use Rattle.model.specs.declared.phase.Phase.{Phase}
@@ -24,7 +25,7 @@ pub record Finishes (run : Run) (m : MachineState) (events : List Event) : Type 
   pub events_are : run.events ≡ events
   pub statuses_are : run.statuses ≡ statuses m
   pub terminal_is : run.terminal ≡ m.kernel.terminal
-  pub no_files : run.files ≡ []
+  pub files_are : run.files ≡ named_files m.kernel.io.files
   pub replies_are : run.replies ≡ m.replies
   pub done : run.last ≡ last.Done
 

@@ -122,7 +122,7 @@ IsReading _ = ⊥
 -- ---- what is written
 
 abbrev pub text_of_run : Run → List ℕ
-text_of_run run = report_text run.terminal run.statuses
+text_of_run run = report_text run.terminal run.statuses run.files
 
 -- a front of the text was written, or all of it
 abbrev pub WritesLine : Option (List ℕ) → Option (List ℕ) → List ℕ → Type 0

@@ -219,7 +219,12 @@ fn tell<O: Sink>(alloc: Global, out: &mut O, run: Run) -> Ended
     ensures written { WritesRun (O.written out.old) (O.written out.new) result.run result.why }
     ensures fault { result.why ≡ Why.WriteFault → Rose (O.faults out.old) (O.faults out.new) }
 {
-    let Ok(pieces) = report(alloc, run.terminal.as_slice(), run.statuses.as_slice()) else {
+    let Ok(pieces) = report(
+        alloc,
+        run.terminal.as_slice(),
+        run.statuses.as_slice(),
+        run.files.as_slice(),
+    ) else {
         return answer(Why::NoMemory, None);
     };
     match write_pieces(out, pieces.as_slice()) {

@@ -2,9 +2,9 @@
 ghost use Rattle.std.specs.Prelude.{◌≡◌, ◌++◌, ◌+◌, ◌∷◌, [], List, ℕ, length, IfOk, OnOk, take, drop, codes, ◌^◌, ◌<◌};
 ghost use Rattle.std.specs.List.{flat_map};
 ghost use Rattle.outside.specs.Outside.{Appends, HasCause};
-ghost use Rattle.model.specs.Report.{terminal_line, status_line, status_lines, report_text};
+ghost use Rattle.model.specs.Report.{terminal_line, status_line, status_lines, length_text, file_line, file_text, file_texts, report_text};
 
-use call_table::{Bytes, ListOf, NoMemory, PidState};
+use call_table::{Bytes, ListOf, Named, NoMemory, PidState};
 use outside::{Failed, Sink};
 use std::alloc::{AllocError, Global};
 
@@ -47,21 +47,73 @@ fn push_bytes(alloc: Global, pieces: &mut Pieces, bytes: &[u8]) -> Result<(), No
     Ok(())
 }
 
+/// Adds a line for each process.
+fn push_statuses(
+    alloc: Global,
+    pieces: &mut Pieces,
+    statuses: &[(u32, PidState)],
+) -> Result<(), NoMemory>
+    ensures { OnOk result (flat_map (λ b. b) pieces.new ≡ flat_map (λ b. b) pieces.old ++ status_lines statuses.now) }
+{
+    for status in statuses {
+        pieces.push(status_line(alloc, status)?)?;
+    }
+    Ok(())
+}
+
+/// The length of a file and the end of its line.
+fn length_text(alloc: Global, len: usize) -> Result<Bytes, AllocError>
+    ensures { IfOk result (λ b. b ≡ length_text len) }
+{
+    let text = format!(in alloc; " {len}\n")?;
+    Ok(Bytes::from_vec(text.into_bytes()))
+}
+
+fn file_line(alloc: Global, file: &Named) -> Result<Bytes, NoMemory>
+    ensures { IfOk result (λ b. b ≡ file_line file.now) }
+{
+    let mut line = Bytes::from_slice(alloc, b"file ")?;
+    line.push_slice(file.name.as_slice())?;
+    let length = length_text(alloc, file.bytes.len())?;
+    line.push_slice(length.as_slice())?;
+    Ok(line)
+}
+
+/// Adds a file: its line, its bytes and a newline.
+fn push_file(alloc: Global, pieces: &mut Pieces, file: &Named) -> Result<(), NoMemory>
+    ensures { OnOk result (flat_map (λ b. b) pieces.new ≡ flat_map (λ b. b) pieces.old ++ file_text file.now) }
+{
+    pieces.push(file_line(alloc, file)?)?;
+    push_bytes(alloc, pieces, file.bytes.as_slice())?;
+    pieces.push(Bytes::from_slice(alloc, b"\n")?)?;
+    Ok(())
+}
+
+/// Adds all files in order.
+fn push_files(alloc: Global, pieces: &mut Pieces, files: &[Named]) -> Result<(), NoMemory>
+    ensures { OnOk result (flat_map (λ b. b) pieces.new ≡ flat_map (λ b. b) pieces.old ++ file_texts files.now) }
+{
+    for file in files {
+        push_file(alloc, pieces, file)?;
+    }
+    Ok(())
+}
+
 /// The report of a run in the pieces in which it is written.
 pub fn report(
     alloc: Global,
     terminal: &[u8],
     statuses: &[(u32, PidState)],
+    files: &[Named],
 ) -> Result<Pieces, NoMemory>
-    ensures { IfOk result (λ pieces. flat_map (λ b. b) pieces ≡ report_text terminal.now statuses.now) }
+    ensures { IfOk result (λ pieces. flat_map (λ b. b) pieces ≡ report_text terminal.now statuses.now files.now) }
 {
     let mut pieces = Pieces::new(alloc);
     pieces.push(terminal_line(alloc, terminal.len())?)?;
     push_bytes(alloc, &mut pieces, terminal)?;
     pieces.push(Bytes::from_slice(alloc, b"\n")?)?;
-    for status in statuses {
-        pieces.push(status_line(alloc, status)?)?;
-    }
+    push_statuses(alloc, &mut pieces, statuses)?;
+    push_files(alloc, &mut pieces, files)?;
     pieces.push(Bytes::from_slice(alloc, b"done\n")?)?;
     Ok(pieces)
 }

@@ -9,10 +9,11 @@ use Rattle.std.specs.Option.{option_map, option_and_then}
 use Rattle.model.specs.User.{UserState}
 use Rattle.model.specs.Request.{call_request, returned}
 use Rattle.model.specs.Advance.{Went, Done, AtCall, Faults, advance, request_of, asked_at, grows}
-use Rattle.model.specs.Kernel.{KernelState, Called, call_result, with_end}
+use Rattle.model.specs.Kernel.{KernelState, Called, with_process, with_end}
+use Rattle.model.specs.Calls.{call_result}
 use Rattle.model.specs.Machine.{MachineState, at_pid, if_live, live_user, with_user, Served, served, served_at, answered, with_served, done_of, fallen, fallen_at, launched, can_launch, next_pid}
 use Rattle.one_node.specs.declared.going.Ran.{Ran}
-use Rattle.one_node.specs.Calls.{IsLive, is_live, is_live_end, Launches}
+use Rattle.home_kernel.specs.Serving.{IsLive, is_live, is_live_end, Launches}
 use Rattle.one_node.specs.Going.{fault_of, signal_in, Goes, GoesAt, GoesOn, ServesAt}
 use Rattle.one_node.proofs.Quanta.{grows_done}
 
@@ -152,8 +153,8 @@ launches_in k after users replies m u pid setup is len here l =
     let many : length users + 1 ≡ pid = omega (arith, len, l.2, ap (λ (y : KernelState). length y.ends) l.1, length_more k.ends) in
     ap (launched setup) (sym is)
     ∙ ap (λ o. launched o x) here
-    ∙ ap (λ b. cond b (Some (state_of (record k { ends = k.ends ++ None ∷ [] }) (users ++ record u { pid = next_pid x } ∷ []) replies)) None) room
-    ∙ ap (λ n. Some (state_of (record k { ends = k.ends ++ None ∷ [] }) (users ++ record u { pid = n } ∷ []) replies)) many
+    ∙ ap (λ b. cond b (Some (state_of (with_process k) (users ++ record u { pid = next_pid x } ∷ []) replies)) None) room
+    ∙ ap (λ n. Some (state_of (with_process k) (users ++ record u { pid = n } ∷ []) replies)) many
     ∙ ap (λ y. Some (state_of y (users ++ record u { pid = pid } ∷ []) replies)) (sym l.1)
 
 pub launches_not_in : (k after : KernelState) (users : List UserState) (replies : List Reply3) (m : MachineState) (u : UserState) (setup : Option UserState) → state_of k users replies ≡ m → length users ≡ length k.ends → setup ≡ Some u
@@ -163,4 +164,4 @@ launches_not_in k after users replies m u setup is len here l =
     let full : can_launch x ≡ false = ap (λ n. nat_lt (count_by is_none k.ends) 64 && nat_lt n 32767) len ∙ l.0 in
     ap (launched setup) (sym is)
     ∙ ap (λ o. launched o x) here
-    ∙ ap (λ b. cond b (Some (state_of (record k { ends = k.ends ++ None ∷ [] }) (users ++ record u { pid = next_pid x } ∷ []) replies)) None) full
+    ∙ ap (λ b. cond b (Some (state_of (with_process k) (users ++ record u { pid = next_pid x } ∷ []) replies)) None) full

@@ -1,4 +1,3 @@
-pub mod Calls
 pub mod Going
 pub mod Applying
 pub mod Playing

@@ -1,5 +1,6 @@
 -- What playing a list of steps tells.
-use Rattle.std.specs.Prelude.{◌≡◌, ℕ, ◌-◌, ◌^◌, [], List, Option, Some, None, slice_get, take, min}
+use Rattle.std.specs.Prelude.{◌≡◌, ℕ, ◌-◌, ◌^◌, List, Option, Some, None, slice_get, take, min}
+use Rattle.fs_memory.specs.Files.{named_files}
 use Rattle.model.specs.User.{UserState}
 use Rattle.model.specs.Machine.{MachineState, machine_step, played, start, statuses}
 use Rattle.model.specs.declared.step.Step.{Step}
@@ -11,7 +12,7 @@ use Rattle.one_node.specs.declared.play.PlayFault.TheVariants.{NotEnabled, NoMem
 pub record Tells (o : Outcome) (m : MachineState) : Type 0 where
   pub statuses_are : o.statuses ≡ statuses m
   pub terminal_is : o.terminal ≡ m.kernel.terminal
-  pub no_files : o.files ≡ []
+  pub files_are : o.files ≡ named_files m.kernel.io.files
   pub replies_are : o.replies ≡ m.replies
 
 abbrev pub IsOutcomeOf : Outcome → Option MachineState → Type 0

@@ -2,12 +2,13 @@
 ghost use Rattle.std.specs.Prelude.{Some, None, IfSome, IsSome, ◌≢◌, ◌≡◌, ◌+◌, ◌-◌, ◌<◌, ◌≤◌, ◌^◌, IfOk, OnErr, OnOk, slice_get, slice_set, length, vec_len};
 ghost use Rattle.std.specs.Option.{option_map, option_and_then};
 ghost use Rattle.model.specs.Advance.{advanced, request_of, asked_number};
+ghost use Rattle.model.specs.Calls.{call_result};
 ghost use Rattle.model.specs.Machine.{Moves, served};
-ghost use Rattle.one_node.specs.Calls.{IsLive};
+ghost use Rattle.home_kernel.specs.Serving.{Calls, IsLive};
 ghost use Rattle.one_node.specs.Going.{Goes, GoesAt, fault_of, Serves, ServesAt};
 
-use crate::kernel::Kernel;
-use call_table::{NoMemory, Reply3};
+use call_table::{Answer, NoMemory, Reply3, Request};
+use home_kernel::{Kernel, Served};
 use std::alloc::Global;
 use user_ctx::{Stop, User};
 
@@ -98,6 +99,35 @@ pub fn steps_at(users: &mut Vec<User>, i: usize, k: u32) -> Result<bool, NoMemor
     }
 }
 
+/// The answer of a call, None where it blocks or is not built.
+fn answer_of(
+    alloc: Global,
+    kernel: &mut Kernel,
+    pid: u32,
+    request: &Request,
+) -> Result<Option<Answer>, NoMemory>
+    requires { IsLive kernel.old pid }
+    ensures ok { IfOk result (λ answer. Calls answer (call_result kernel.old pid request.now) kernel.old kernel.new) }
+    ensures len { length kernel.new.ends ≡ length kernel.old.ends }
+{
+    match kernel.serve(alloc, pid, request)? {
+        Served::Done { answer, .. } => Ok(Some(answer)),
+        Served::Blocks => Ok(None),
+        Served::NotBuilt => Ok(None),
+    }
+}
+
+/// What is kept of a served call.
+fn reply_of(pid: u32, number: u32, answer: &Answer) -> Reply3
+    ensures { result ≡ record { pid = pid; number = number; value = answer.now.value } }
+{
+    Reply3 {
+        pid,
+        number,
+        value: answer.value,
+    }
+}
+
 /// The forwarded call of a live process, where it is at one that is built.
 fn serve(
     alloc: Global,
@@ -117,15 +147,11 @@ fn serve(
         Stop::Fault(_) => return Ok(None),
     }
     let request = user.request(alloc)?;
-    let Some(answer) = kernel.serve(alloc, pid, &request)? else {
+    let Some(answer) = answer_of(alloc, kernel, pid, &request)? else {
         return Ok(None);
     };
     user.give(&answer);
-    Ok(Some(Reply3 {
-        pid,
-        number: request.number,
-        value: answer.value,
-    }))
+    Ok(Some(reply_of(pid, request.number, &answer)))
 }
 
 /// The same for the process at an index.

@@ -1,14 +1,15 @@
 // The plain system on one node as one value.
 ghost use Rattle.std.specs.Prelude.{◌≢◌, ◌≡◌, ◌+◌, ◌-◌, ◌<◌, ◌≤◌, ◌^◌, Some, None, IfOk, OnOk, slice_get, length, IfSome, is_some, ◌++◌, ◌∷◌, [], true, false, IsTrue, vec_len, if◌then◌else◌};
+ghost use Rattle.fs_memory.specs.Files.{named_files};
 ghost use Rattle.model.specs.Machine.{MachineState, start, launched, steps_of, live_user, done_of, fallen, machine_step, ended_of, statuses, at_pid, Moves};
 ghost use Rattle.one_node.specs.Going.{GoesOr};
 ghost use Rattle.one_node.specs.Applying.{AppliedAs};
 ghost use Rattle.std.specs.Option.{option_copied};
 
 use crate::going::{Ran, fault_at, go_at, serve_at, steps_at};
-use crate::kernel::Kernel;
 use crate::report::statuses;
 use call_table::{Bytes, End, ListOf, NamedFiles, NoMemory, Replies, Reply3, Statuses};
+use home_kernel::Kernel;
 use model::step::Step;
 use std::alloc::Global;
 use std::marker::Model;
@@ -167,7 +168,7 @@ impl Home {
         }
         match fault_at(&mut self.users, pid as usize - 1) {
             Some(signal) => {
-                self.kernel.fall(pid, signal);
+                let _raised = self.kernel.fall(pid, signal);
                 true
             }
             None => false,
@@ -219,7 +220,7 @@ impl Home {
     pub fn outcome(&self, alloc: Global) -> Result<Outcome, NoMemory>
         ensures terminal { IfOk result (λ o. o.terminal ≡ self.now.kernel.terminal) }
         ensures statuses { IfOk result (λ o. o.statuses ≡ statuses self.now) }
-        ensures files { IfOk result (λ o. o.files ≡ []) }
+        ensures files { IfOk result (λ o. o.files ≡ named_files self.now.kernel.io.files) }
         ensures replies { IfOk result (λ o. o.replies ≡ self.now.replies) }
     {
         let terminal = Bytes::from_slice(alloc, self.kernel.terminal())?;
@@ -227,7 +228,7 @@ impl Home {
         Ok(Outcome {
             statuses: statuses(alloc, self.kernel.ends())?,
             terminal,
-            files: NamedFiles::new(alloc),
+            files: self.kernel.named_files()?,
             replies: Replies::from_vec(replies),
         })
     }

@@ -3,7 +3,6 @@
 
 pub mod going;
 pub mod home;
-pub mod kernel;
 pub mod play;
 mod report;
 
