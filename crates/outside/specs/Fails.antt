@@ -1,6 +1,7 @@
--- The calls that fail, by number.
-use Rattle.std.specs.Prelude.{ℕ, ◌+◌, ◌-◌, ◌^◌, ◌==◌, List, Bool, min}
+-- Which calls on the outside in memory fail, and how they are counted.
+use Rattle.std.specs.Prelude.{ℕ, ◌+◌, ◌-◌, ◌^◌, ◌==◌, List, Bool, ◌&&◌, nat_lt, min}
 use Rattle.std.specs.List.{list_any}
+use Rattle.outside.specs.declared.plan.Plan.{Plan}
 
 -- a count raised by one: it stands still at its type's end
 abbrev pub one_more : ℕ → ℕ
@@ -9,3 +10,19 @@ one_more count = min (count + 1) (2 ^ 64 - 1)
 -- whether a call is one of those that fail
 abbrev pub is_listed : List ℕ → ℕ → Bool
 is_listed fails call = list_any (λ n. n == call) fails
+
+-- no call was made
+abbrev pub fresh : List ℕ → Plan
+fresh fails = record { made = 0; fails = fails; faults = 0 }
+
+-- whether the next call is listed: its number is one more than that of the calls made, and no list has a number from 2^64 on
+abbrev pub fails_next : Plan → Bool
+fails_next plan = nat_lt plan.made (2 ^ 64 - 1) && is_listed plan.fails (plan.made + 1)
+
+-- after a call that did not fail
+abbrev pub after_call : Plan → Plan
+after_call plan = record plan { made = one_more plan.made }
+
+-- after a call that failed
+abbrev pub after_fault : Plan → Plan
+after_fault plan = record plan { made = one_more plan.made; faults = one_more plan.faults }
