@@ -1,7 +1,9 @@
 -- Which calls on the outside in memory fail, and how they are counted.
-use Rattle.std.specs.Prelude.{ℕ, ◌+◌, ◌-◌, ◌^◌, ◌==◌, List, Bool, ◌&&◌, nat_lt, min}
+use Rattle.std.specs.Prelude.{◌≡◌, ℕ, ◌+◌, ◌-◌, ◌^◌, ◌==◌, List, Bool, ◌&&◌, nat_lt, min, Result, Ok, Err}
 use Rattle.std.specs.List.{list_any}
 use Rattle.outside.specs.declared.plan.Plan.{Plan}
+use Rattle.outside.specs.declared.traits.LoadFault.{LoadFault}
+use Rattle.outside.specs.declared.traits.LoadFault.TheVariants as fault
 
 -- a count raised by one: it stands still at its type's end
 abbrev pub one_more : ℕ → ℕ
@@ -26,3 +28,19 @@ after_call plan = record plan { made = one_more plan.made }
 -- after a call that failed
 abbrev pub after_fault : Plan → Plan
 after_fault plan = record plan { made = one_more plan.made; faults = one_more plan.faults }
+
+-- a count rises by one exactly at a failure
+abbrev pub Counts : {T E : Type 0} → ℕ → ℕ → Result T E → Type 0
+Counts before now (Ok x) = now ≡ before
+Counts before now (Err e) = now ≡ one_more before
+
+-- the same of the loads of files that are not told: they are never absent or too long
+abbrev pub CountsMiss : ℕ → ℕ → LoadFault → Type 0
+CountsMiss before now fault.Failed = now ≡ one_more before
+CountsMiss before now fault.NoMemory = now ≡ before
+CountsMiss before now fault.Absent = ⊥
+CountsMiss before now fault.TooLong = ⊥
+
+abbrev pub CountsLoad : {T : Type 0} → ℕ → ℕ → Result T LoadFault → Type 0
+CountsLoad before now (Ok x) = now ≡ before
+CountsLoad before now (Err e) = CountsMiss before now e

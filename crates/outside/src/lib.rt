@@ -4,6 +4,8 @@
 mod memory;
 mod plan;
 mod real;
+#[cfg(test)]
+mod tests;
 mod traits;
 
 pub use memory::{MemImages, MemSink, MemSource};
