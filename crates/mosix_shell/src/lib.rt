@@ -2,6 +2,8 @@
 #![tactic(auto)]
 
 pub mod mosix;
+#[cfg(test)]
+mod play_tests;
 pub mod report;
 pub mod run;
 pub mod script;

@@ -8,7 +8,7 @@ use std::alloc::Global;
 use std::test::Fail;
 
 /// A program of 123 bytes that writes `hi` and a newline, and exits with 0.
-const HELLO: [u8; 123] = [
+pub const HELLO: [u8; 123] = [
     0x7F, 0x45, 0x4C, 0x46, 1, 1, 1, 0, 0, 0, 0, 0, 0, 0, 0, 0, 2, 0, 0xF3, 0, 1, 0, 0, 0, 0, 0, 1,
     0, 52, 0, 0, 0, 0, 0, 0, 0, 0, 0, 0, 0, 52, 0, 32, 0, 1, 0, 0, 0, 0, 0, 0, 0, 1, 0, 0, 0, 84,
     0, 0, 0, 0, 0, 1, 0, 0, 0, 1, 0, 0x27, 0, 0, 0, 0x27, 0, 0, 0, 7, 0, 0, 0, 4, 0, 0, 0, 0x13,
@@ -170,7 +170,7 @@ fn programs_that_fault_and_jump(rt: HostRuntime) -> Result<(), Fail> {
 }
 
 /// What hello's two calls answer.
-const REPLIES: [Reply3; 2] = [
+pub const REPLIES: [Reply3; 2] = [
     Reply3 {
         pid: 1,
         number: 9,

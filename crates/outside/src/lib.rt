@@ -2,9 +2,13 @@
 #![tactic(auto)]
 
 mod memory;
+mod plan;
 mod real;
+#[cfg(test)]
+mod tests;
 mod traits;
 
-pub use memory::{Calls, MemImages, MemSink, MemSource};
+pub use memory::{MemImages, MemSink, MemSource};
+pub use plan::Calls;
 pub use real::{FileImages, StdSink, StdSource};
 pub use traits::{Failed, Images, LoadFault, Sink, Source};

@@ -1,91 +1,47 @@
 // The outside in memory, which fails at listed calls.
-ghost use Rattle.std.specs.Prelude.{◌≡◌, Some, vec_len, vec_capacity, [], ◌∷◌, length, ◌++◌, ◌≤◌, ◌+◌, ◌^◌, ◌<◌, IsTrue, false};
+ghost use Rattle.std.specs.Prelude.{◌≡◌, ◌++◌, ◌+◌, ◌≤◌, IfOk, [], Some, length, vec_len, vec_capacity, take, drop};
 ghost use Rattle.std.specs.Option.{option_copied};
-ghost use Rattle.std.specs.List.{list_any};
-ghost use Rattle.outside.specs.Outside.{file_named, NamedFile, Rose};
-ghost use Rattle.outside.specs.Fails.{one_more, is_listed};
+ghost use Rattle.outside.specs.Outside.{file_named, NamedFile, Rose, Takes, HasCause, Appends, Loaded, LoadCause};
+ghost use Rattle.outside.specs.Fails.{fresh};
+ghost use Rattle.outside.specs.Memory.{Reads, Writes, Loads, LoadedOr};
 
+use crate::plan::{Calls, Plan, fails, plan_of};
 use crate::traits::{Failed, Images, LoadFault, Sink, Source};
-use call_table::{Bytes, ListOf, Named, Names, NoMemory};
+use call_table::{Bytes, Named, Names, NoMemory};
 use std::alloc::Global;
-
-/// The numbers, from 1, of the calls that fail.
-pub type Calls = ListOf<u64>;
+use std::marker::Model;
 
 /// Files longer than this are refused.
 const FILE_BYTES: usize = 16_777_216;
 
-/// How many calls were made, which of them fail, and how many failed.
-#[derive(Debug, Drop)]
-struct Plan {
-    made: u64,
-    fails: Calls,
-    faults: u64,
-}
+// ---- a source
 
-fn plan_of(fails: Calls) -> Plan
-    ensures { result ≡ record { made = 0; fails = fails; faults = 0 } }
-{
-    Plan {
-        made: 0,
-        fails,
-        faults: 0,
-    }
-}
-
-/// A count raised by one; it stands still at its type's end.
-fn one_more(count: u64) -> u64
-    ensures is { result ≡ one_more count }
-    ensures rose { Rose count result }
-    ensures later { count ≤ result }
-{
-    count.saturating_add(1)
-}
-
-/// Whether a call is one of those that fail.
-fn is_listed(fails: &Calls, call: u64) -> bool
-    ensures { result ≡ is_listed fails.now call }
-{
-    fails.as_slice().iter().any(|n| *n == call)
-}
-
-fn raise(plan: &mut Plan)
-    ensures is { plan.new ≡ record plan.old { faults = one_more plan.old.faults } }
-    ensures rose { Rose plan.old.faults plan.new.faults }
-    ensures later { plan.old.faults ≤ plan.new.faults }
-{
-    plan.faults = one_more(plan.faults);
-}
-
-/// One call more: whether it is listed. The count of faults rises where it is.
-fn fails(plan: &mut Plan) -> bool
-    ensures is { result ≡ is_listed plan.old.fails (one_more plan.old.made) }
-    ensures made { plan.new.made ≡ one_more plan.old.made }
-    ensures fails { plan.new.fails ≡ plan.old.fails }
-    ensures rose { IsTrue result → Rose plan.old.faults plan.new.faults }
-    ensures later { plan.old.faults ≤ plan.new.faults }
-    ensures still { result ≡ false → plan.new.faults ≡ plan.old.faults }
-{
-    plan.made = one_more(plan.made);
-    if is_listed(&plan.fails, plan.made) {
-        raise(plan);
-        return true;
-    }
-    false
-}
-
-/// A source in memory.
+/// A source in memory. Contracts see the bytes that are left, and its calls.
 #[derive(Debug, Drop)]
 pub struct MemSource {
     bytes: Bytes,
     at: usize,
     plan: Plan,
-    ghost within: { at ≤ length bytes },
+}
+
+impl Model for MemSource {
+    ghost use Rattle.std.specs.Prelude.{◌≤◌, length, drop};
+    ghost use Rattle.outside.specs.Memory.{SourceState, coded_source};
+
+    ghost Value = { SourceState };
+
+    ghost coded = { coded_source };
+
+    ghost view = { λ s. record { left = drop s.at s.bytes; plan = s.plan } };
+
+    ghost invariant = { λ s. s.at ≤ length s.bytes };
 }
 
 impl MemSource {
     /// A source of these bytes, where the listed calls fail.
-    pub fn new(bytes: Bytes, fails: Calls) -> MemSource {
+    pub fn new(bytes: Bytes, fails: Calls) -> MemSource
+        ensures { result ≡ record { left = bytes; plan = fresh fails } }
+    {
         MemSource {
             bytes,
             at: 0,
@@ -94,20 +50,28 @@ impl MemSource {
     }
 
     /// How many calls failed.
-    pub fn faults(&self) -> u64 {
+    pub fn faults(&self) -> u64
+        ensures { result ≡ self.now.plan.faults }
+    {
         self.plan.faults
     }
 }
 
 impl Source for MemSource {
-    ghost use Rattle.std.specs.Prelude.{Some, drop};
+    ghost use Rattle.std.specs.Prelude.{Some};
 
-    ghost left = { λ s. Some (drop s.at s.bytes) };
+    ghost left = { λ s. Some s.left };
 
     ghost faults = { λ s. s.plan.faults };
 
-    fn read(&mut self, into: &mut [u8]) -> Result<usize, Failed> {
-        if fails(&mut self.plan) {
+    /// The next bytes, as many as there are and fit. `Failed` exactly where the call is listed.
+    fn read(&mut self, into: &mut [u8]) -> Result<usize, Failed>
+        ensures bound { IfOk result (λ n. n ≤ length into.new) }
+        ensures bytes { Takes (Some self.old.left) (Some self.new.left) into.new result }
+        ensures cause { HasCause self.old.plan.faults self.new.plan.faults result }
+        ensures exact { Reads self.old into.old result self.new into.new }
+    {
+        if fails(&mut self.plan, false) {
             return Err(Failed);
         }
         let bytes = self.bytes.as_slice();
@@ -118,18 +82,46 @@ impl Source for MemSource {
     }
 }
 
-/// A sink in memory.
+// ---- a sink
+
+/// A sink in memory. Contracts see what was written, how many bytes it holds at most, and its calls.
 #[derive(Debug, Drop)]
 pub struct MemSink {
     bytes: Vec<u8>,
     room: usize,
     plan: Plan,
-    ghost has_room: { room ≤ vec_capacity bytes },
+}
+
+impl Model for MemSink {
+    ghost use Rattle.std.specs.Prelude.{◌≤◌, vec_len, vec_capacity};
+    ghost use Rattle.outside.specs.Memory.{SinkState, coded_sink};
+
+    ghost Value = { SinkState };
+
+    ghost coded = { coded_sink };
+
+    ghost view = { λ s. record { written = s.bytes.items; room = s.room; plan = s.plan } };
+
+    ghost invariant = { λ s. (vec_len s.bytes ≤ s.room) × (s.room ≤ vec_capacity s.bytes) };
+}
+
+/// Appends bytes, for which there is memory.
+fn append(bytes: &mut Vec<u8>, more: &[u8])
+    requires { vec_len bytes.old + length more.now ≤ vec_capacity bytes.old }
+    ensures items { bytes.new.items ≡ bytes.old.items ++ more.now }
+    ensures len { vec_len bytes.new ≡ vec_len bytes.old + length more.now }
+    ensures capacity { vec_capacity bytes.new ≡ vec_capacity bytes.old }
+{
+    for byte in more {
+        bytes.push_reserved(*byte);
+    }
 }
 
 impl MemSink {
     /// A sink of so many bytes, where the listed calls fail. It takes its memory at once.
-    pub fn new(alloc: Global, fails: Calls, room: usize) -> Result<MemSink, NoMemory> {
+    pub fn new(alloc: Global, fails: Calls, room: usize) -> Result<MemSink, NoMemory>
+        ensures { IfOk result (λ s. s ≡ record { written = []; room = room; plan = fresh fails }) }
+    {
         Ok(MemSink {
             bytes: Vec::with_capacity(alloc, room)?,
             room,
@@ -138,12 +130,16 @@ impl MemSink {
     }
 
     /// What was written.
-    pub fn bytes(&self) -> &[u8] {
+    pub fn bytes(&self) -> &[u8]
+        ensures { result.now ≡ self.now.written }
+    {
         self.bytes.as_slice()
     }
 
     /// How many calls failed.
-    pub fn faults(&self) -> u64 {
+    pub fn faults(&self) -> u64
+        ensures { result ≡ self.now.plan.faults }
+    {
         self.plan.faults
     }
 }
@@ -151,69 +147,42 @@ impl MemSink {
 impl Sink for MemSink {
     ghost use Rattle.std.specs.Prelude.{Some};
 
-    ghost written = { λ s. Some s.bytes.items };
+    ghost written = { λ s. Some s.written };
 
     ghost faults = { λ s. s.plan.faults };
 
-    fn write_all(&mut self, bytes: &[u8]) -> Result<(), Failed> {
-        if fails(&mut self.plan) {
+    /// Appends the bytes. `Failed` exactly where the call is listed or the bytes would pass the room; nothing is written then.
+    fn write_all(&mut self, bytes: &[u8]) -> Result<(), Failed>
+        ensures bytes { Appends (Some self.old.written) (Some self.new.written) bytes.now result }
+        ensures cause { HasCause self.old.plan.faults self.new.plan.faults result }
+        ensures exact { Writes self.old bytes.now result self.new }
+    {
+        let room = self.room - self.bytes.len();
+        if fails(&mut self.plan, bytes.len() > room) {
             return Err(Failed);
         }
-        let room = self.room.saturating_sub(self.bytes.len());
-        if bytes.len() > room || self.bytes.extend_from_slice(bytes).is_err() {
-            raise(&mut self.plan);
-            return Err(Failed);
-        }
+        append(&mut self.bytes, bytes);
         Ok(())
     }
 }
 
-/// Files in memory.
+// ---- files
+
+/// Files in memory. Contracts see the files and the calls.
 #[derive(Debug, Drop)]
 pub struct MemImages {
     files: Names,
     plan: Plan,
 }
 
-impl MemImages {
-    /// These files, where the listed calls fail.
-    pub fn new(files: Names, fails: Calls) -> MemImages {
-        MemImages {
-            files,
-            plan: plan_of(fails),
-        }
-    }
+impl Model for MemImages {
+    ghost use Rattle.outside.specs.Memory.{ImagesState, coded_images};
 
-    /// How many calls failed.
-    pub fn faults(&self) -> u64 {
-        self.plan.faults
-    }
-}
+    ghost Value = { ImagesState };
 
-impl Images for MemImages {
-    ghost use Rattle.std.specs.Prelude.{Some};
+    ghost coded = { coded_images };
 
-    ghost files = { λ s. Some s.files };
-
-    ghost faults = { λ s. s.plan.faults };
-
-    fn load(&mut self, alloc: Global, name: &str) -> Result<Bytes, LoadFault> {
-        if fails(&mut self.plan) {
-            return Err(LoadFault::Failed);
-        }
-        match find(self.files.as_slice(), name.as_bytes()) {
-            None => Err(LoadFault::Absent),
-            Some(bytes) => {
-                if bytes.as_slice().len() > FILE_BYTES {
-                    return Err(LoadFault::TooLong);
-                }
-                match Bytes::from_slice(alloc, bytes.as_slice()) {
-                    Ok(copy) => Ok(copy),
-                    Err(_) => Err(LoadFault::NoMemory),
-                }
-            }
-        }
-    }
+    ghost view = { λ s. record { files = s.files; plan = s.plan } };
 }
 
 /// The file of a name: the first counts.
@@ -226,4 +195,63 @@ fn find<'a>(files: &'a [Named], name: &[u8]) -> Option<&'a Bytes>
         }
     }
     None
+}
+
+/// A copy of the file of a name.
+fn copy_of(alloc: Global, files: &Names, name: &[u8]) -> Result<Bytes, LoadFault>
+    ensures { LoadedOr (file_named files.now name.now) result }
+{
+    let Some(bytes) = find(files.as_slice(), name) else {
+        return Err(LoadFault::Absent);
+    };
+    if bytes.as_slice().len() > FILE_BYTES {
+        return Err(LoadFault::TooLong);
+    }
+    match bytes.copy(alloc) {
+        Ok(copy) => Ok(copy),
+        Err(_) => Err(LoadFault::NoMemory),
+    }
+}
+
+impl MemImages {
+    /// These files, where the listed calls fail.
+    pub fn new(files: Names, fails: Calls) -> MemImages
+        ensures { result ≡ record { files = files; plan = fresh fails } }
+    {
+        MemImages {
+            files,
+            plan: plan_of(fails),
+        }
+    }
+
+    /// How many calls failed.
+    pub fn faults(&self) -> u64
+        ensures { result ≡ self.now.plan.faults }
+    {
+        self.plan.faults
+    }
+}
+
+impl Images for MemImages {
+    ghost use Rattle.std.specs.Prelude.{Some};
+
+    ghost files = { λ s. Some s.files };
+
+    ghost faults = { λ s. s.plan.faults };
+
+    /// The bytes of the first file of that name. `Failed` exactly where the call is listed.
+    fn load(&mut self, alloc: Global, name: &str) -> Result<Bytes, LoadFault>
+        ensures files { self.new.files ≡ self.old.files }
+        ensures bytes { Loaded (Some self.old.files) name.now result }
+        ensures cause { LoadCause self.old.plan.faults self.new.plan.faults result }
+        ensures exact { Loads self.old name.now result self.new }
+    {
+        if fails(&mut self.plan, false) {
+            return Err(LoadFault::Failed);
+        }
+        match copy_of(alloc, &self.files, name.as_bytes()) {
+            Ok(bytes) => Ok(bytes),
+            Err(e) => Err(e),
+        }
+    }
 }

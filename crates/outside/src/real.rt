@@ -1,11 +1,16 @@
 // The real outside: it tells nothing of its bytes, and counts its faults.
-ghost use Rattle.std.specs.Prelude.{None};
+ghost use Rattle.std.specs.Prelude.{◌≡◌, ◌≤◌, None, length, IfOk, IfErr, OnOk};
+ghost use Rattle.std.specs.Io.KnownBytes.{ReadConsumes, Appends};
+ghost use Rattle.outside.specs.Outside.{Takes, HasCause, Loaded, LoadCause};
+ghost use Rattle.outside.specs.Outside.{Appends as SinkAppends};
+ghost use Rattle.outside.specs.Fails.{Counts, CountsLoad};
 
+use crate::plan::one_more;
 use crate::traits::{Failed, Images, LoadFault, Sink, Source};
 use call_table::Bytes;
 use std::alloc::Global;
 use std::fs;
-use std::io::{Read, Write};
+use std::io::{ErrorKind, Read, Write};
 use std::rt::Files;
 
 /// Files longer than this are refused.
@@ -20,12 +25,16 @@ pub struct StdSource<R: Read + Drop> {
 
 impl<R: Read + Drop> StdSource<R> {
     /// A source over a reader.
-    pub fn new(inner: R) -> StdSource<R> {
+    pub fn new(inner: R) -> StdSource<R>
+        ensures { result ≡ record { inner = inner; faults = 0 } }
+    {
         StdSource { inner, faults: 0 }
     }
 
     /// How many reads failed.
-    pub fn faults(&self) -> u64 {
+    pub fn faults(&self) -> u64
+        ensures { result ≡ self.now.faults }
+    {
         self.faults
     }
 }
@@ -37,11 +46,18 @@ impl<R: Read + Drop> Source for StdSource<R> {
 
     ghost faults = { λ s. s.faults };
 
-    fn read(&mut self, into: &mut [u8]) -> Result<usize, Failed> {
+    /// What the reader gives, where it tells its bytes. The count rises by one exactly at `Failed`.
+    fn read(&mut self, into: &mut [u8]) -> Result<usize, Failed>
+        ensures bound { IfOk result (λ n. n ≤ length into.new) }
+        ensures bytes { Takes None None into.new result }
+        ensures cause { HasCause self.old.faults self.new.faults result }
+        ensures counts { Counts self.old.faults self.new.faults result }
+        ensures through { ReadConsumes (R.remaining self.old.inner) (R.remaining self.new.inner) result into.new }
+    {
         match self.inner.read(into) {
             Ok(count) => Ok(count),
             Err(_) => {
-                self.faults = self.faults.saturating_add(1);
+                self.faults = one_more(self.faults);
                 Err(Failed)
             }
         }
@@ -57,12 +73,16 @@ pub struct StdSink<W: Write + Drop> {
 
 impl<W: Write + Drop> StdSink<W> {
     /// A sink over a writer.
-    pub fn new(inner: W) -> StdSink<W> {
+    pub fn new(inner: W) -> StdSink<W>
+        ensures { result ≡ record { inner = inner; faults = 0 } }
+    {
         StdSink { inner, faults: 0 }
     }
 
     /// How many writes failed.
-    pub fn faults(&self) -> u64 {
+    pub fn faults(&self) -> u64
+        ensures { result ≡ self.now.faults }
+    {
         self.faults
     }
 }
@@ -74,11 +94,17 @@ impl<W: Write + Drop> Sink for StdSink<W> {
 
     ghost faults = { λ s. s.faults };
 
-    fn write_all(&mut self, bytes: &[u8]) -> Result<(), Failed> {
+    /// Hands all bytes to the writer. The count rises by one exactly at `Failed`.
+    fn write_all(&mut self, bytes: &[u8]) -> Result<(), Failed>
+        ensures bytes { SinkAppends None None bytes.now result }
+        ensures cause { HasCause self.old.faults self.new.faults result }
+        ensures counts { Counts self.old.faults self.new.faults result }
+        ensures through { OnOk result (Appends (W.contents self.old.inner) (W.contents self.new.inner) bytes.now) }
+    {
         match self.inner.write_all(bytes) {
             Ok(()) => Ok(()),
             Err(_) => {
-                self.faults = self.faults.saturating_add(1);
+                self.faults = one_more(self.faults);
                 Err(Failed)
             }
         }
@@ -94,12 +120,16 @@ pub struct FileImages<F: Files + Drop> {
 
 impl<F: Files + Drop> FileImages<F> {
     /// The working folder of a runtime.
-    pub fn new(files: F) -> FileImages<F> {
+    pub fn new(files: F) -> FileImages<F>
+        ensures { result ≡ record { files = files; faults = 0 } }
+    {
         FileImages { files, faults: 0 }
     }
 
     /// How many loads failed.
-    pub fn faults(&self) -> u64 {
+    pub fn faults(&self) -> u64
+        ensures { result ≡ self.now.faults }
+    {
         self.faults
     }
 }
@@ -111,12 +141,18 @@ impl<F: Files + AllocGlobal + Drop> Images for FileImages<F> {
 
     ghost faults = { λ s. s.faults };
 
-    /// The bytes of the file of that name. A file that is missing or too long counts as a fault.
-    fn load(&mut self, alloc: Global, name: &str) -> Result<Bytes, LoadFault> {
+    /// The bytes of the file of that name. A file that is missing or too long counts as a fault, want of memory does not.
+    fn load(&mut self, alloc: Global, name: &str) -> Result<Bytes, LoadFault>
+        ensures bytes { Loaded None name.now result }
+        ensures cause { LoadCause self.old.faults self.new.faults result }
+        ensures counts { CountsLoad self.old.faults self.new.faults result }
+        ensures short { IfOk result (λ bytes. length bytes ≤ 16777216) }
+    {
         match fs::read(&self.files, name) {
             Ok(bytes) if bytes.len() <= FILE_BYTES => Ok(Bytes::from_vec(bytes)),
+            Err(e) if e.kind() == ErrorKind::OutOfMemory => Err(LoadFault::NoMemory),
             _ => {
-                self.faults = self.faults.saturating_add(1);
+                self.faults = one_more(self.faults);
                 Err(LoadFault::Failed)
             }
         }
