@@ -70,24 +70,24 @@ exited k pid code = answers (with_end k pid (Exit (code % 256))) (pos 0)
 
 -- ---- how these are told apart
 
-abbrev pub coded_files : Coded FileTable
+unfoldable pub coded_files : Coded FileTable
 coded_files = coded_list (coded_option file_row.the_row.coded)
 
-abbrev pub coded_descriptions : Coded Descriptions
+unfoldable pub coded_descriptions : Coded Descriptions
 coded_descriptions = coded_list (coded_option look_row.the_row.coded)
 
-abbrev pub coded_processes : Coded Processes
+unfoldable pub coded_processes : Coded Processes
 coded_processes = coded_list (coded_option (coded_list (coded_option coded_ℕ)))
 
-abbrev pub coded_fds : Coded FdTable
+unfoldable pub coded_fds : Coded FdTable
 coded_fds = code_by (Descriptions × Processes) (coded× coded_descriptions coded_processes)
     (λ t. (t.descriptions, t.processes)) (λ p. record { descriptions = p.0; processes = p.1 }) (λ _. refl)
 
-abbrev pub coded_io : Coded IoState
+unfoldable pub coded_io : Coded IoState
 coded_io = code_by (FileTable × FdTable) (coded× coded_files coded_fds)
     (λ io. (io.files, io.fds)) (λ p. record { files = p.0; fds = p.1 }) (λ _. refl)
 
-abbrev pub coded_input : Coded Input
+unfoldable pub coded_input : Coded Input
 coded_input = code_by (List ℕ × Bool) (coded× (coded_list coded_ℕ) coded_bool)
     (λ i. (i.bytes, i.ended)) (λ p. record { bytes = p.0; ended = p.1 }) (λ _. refl)
 
@@ -97,7 +97,7 @@ coded_ends = coded_list (coded_option end_row.the_row.coded)
 abbrev pub KernelParts : Type 0
 KernelParts = (IoState × List ℕ) × (Input × List (Option End))
 
-abbrev pub coded_kernel : Coded KernelState
+unfoldable pub coded_kernel : Coded KernelState
 coded_kernel = code_by KernelParts (coded× (coded× coded_io (coded_list coded_ℕ)) (coded× coded_input coded_ends))
     (λ k. ((k.io, k.terminal), (k.input, k.ends)))
     (λ p. record { io = p.0.0; terminal = p.0.1; input = p.1.0; ends = p.1.1 }) (λ _. refl)

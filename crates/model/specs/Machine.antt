@@ -179,7 +179,7 @@ coded_replies = coded_list reply_row.the_row.coded
 abbrev pub Parts : Type 0
 Parts = KernelState × (List UserState × List Reply3)
 
-abbrev pub coded_machine : Coded MachineState
+unfoldable pub coded_machine : Coded MachineState
 coded_machine = code_by Parts (coded× coded_kernel (coded× (coded_list coded_user) coded_replies))
     (λ m. (m.kernel, (m.users, m.replies)))
     (λ p. record { kernel = p.0; users = p.1.0; replies = p.1.1 })

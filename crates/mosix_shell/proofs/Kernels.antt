@@ -1,15 +1,24 @@
 -- A call and a fault leave as many processes as there were.
-use Rattle.std.proofs.Common.{◌≡◌, ℕ, zero, suc, ◌-◌, List, [], ◌∷◌, length, slice_set, refl, ap, ◌∙◌, sym, subst, Option, Some, None, Bool, true, false, cond, ◌==◌, slice_index}
-use Rattle.std.specs.Option.{option_and_then}
+use Rattle.std.proofs.Common.{◌≡◌, ℕ, zero, suc, ◌-◌, List, [], ◌∷◌, length, slice_set, refl, ap, ◌∙◌, sym, subst, Option, Some, None, Bool, true, false, cond, ◌==◌, slice_index, pos, nat_le, ℤ, ◌%◌, ◌++◌}
+use Rattle.std.specs.Option.{option_map, option_and_then}
 use Rattle.std.proofs.lemmas.List.{length-set}
 use Rattle.call_table.specs.declared.process.End.{End}
+use Rattle.call_table.specs.declared.process.End.TheVariants.{Exit}
 use Rattle.call_table.specs.declared.request.Request.{Request}
 use Rattle.node_event.specs.declared.event.Way.{Way}
 use Rattle.node_event.specs.declared.event.Way.TheVariants.{Did, Broke, Fell, Paused}
 use Rattle.model.specs.User.{UserState}
 use Rattle.model.specs.Request.{call_request}
 use Rattle.model.specs.Advance.{Went, Done, AtCall, Faults, advance}
-use Rattle.model.specs.Kernel.{KernelState, Called, call_result, exited, write_result, written, answers, room_of, is_output, fitting}
+use Rattle.fs_memory.specs.Files.{fitting}
+use Rattle.fd_table.specs.Descriptors.{look_at}
+use Rattle.fd_table.specs.declared.description.Look.{Look}
+use Rattle.fd_table.specs.declared.description.Target.{Target}
+use Rattle.fd_table.specs.declared.description.Target.TheVariants.{TermIn, TermOut, File, ReadEnd, WriteEnd}
+use Rattle.model.specs.Errors.{EBADF, EFBIG, ENOSPC}
+use Rattle.model.specs.Io.{IoState, IoDone}
+use Rattle.model.specs.Kernel.{KernelState, Called, answers, answers_io, exited}
+use Rattle.model.specs.Calls.{call_result, call_row, io_row, read_typed, read_result, read_in, read_at, can_read, write_result, write_in, write_at, can_write, with_write, room_of, shown}
 use Rattle.model.specs.Machine.{MachineState, live_user, done_of, fallen, fallen_at, Served, served, served_at, answered, with_served}
 use Rattle.mosix_shell.specs.Turns.{served_machine}
 
@@ -17,22 +26,85 @@ abbrev CalledKeeps : Option Called → ℕ → Type 0
 CalledKeeps None n = Unit {0}
 CalledKeeps (Some c) n = length c.kernel.ends ≡ n
 
--- a choice of two that both keep it
-either_keeps : (b : Bool) (x y : Called) (n : ℕ) → length x.kernel.ends ≡ n → length y.kernel.ends ≡ n → length (cond b x y).kernel.ends ≡ n
-either_keeps true x y n h k = h
-either_keeps false x y n h k = k
+input_keeps : (b : Bool) (k : KernelState) → CalledKeeps (cond b (Some (answers k (pos 0))) None) (length k.ends)
+input_keeps true k = refl
+input_keeps false k = tt
 
-some_keeps : (b : Bool) (x y : Option Called) (n : ℕ) → CalledKeeps x n → CalledKeeps y n → CalledKeeps (cond b x y) n
-some_keeps true x y n h k = h
-some_keeps false x y n h k = k
+typed_keeps : (b : Bool) (k : KernelState) (len : ℕ) → CalledKeeps (cond b (cond k.input.ended (Some (answers k (pos 0))) None) (Some (read_typed k len))) (length k.ends)
+typed_keeps true k len = input_keeps k.input.ended k
+typed_keeps false k len = refl
 
-written_keeps : (k : KernelState) (bytes : List ℕ) → length (written k bytes).kernel.ends ≡ length k.ends
-written_keeps k bytes = either_keeps (length bytes == 0) _ _ (length k.ends) refl (either_keeps (room_of k.terminal == 0) _ _ (length k.ends) refl refl)
+read_in_keeps : (target : Target) (offset : ℕ) (k : KernelState) (pid fd len : ℕ) → CalledKeeps (read_in target offset k pid fd len) (length k.ends)
+read_in_keeps (File id) offset k pid fd len = refl
+read_in_keeps TermIn offset k pid fd len = typed_keeps (length k.input.bytes == 0) k len
+read_in_keeps TermOut offset k pid fd len = refl
+read_in_keeps (ReadEnd pipe) offset k pid fd len = tt
+read_in_keeps (WriteEnd pipe) offset k pid fd len = tt
+
+-- a call on a descriptor that has the right, with something to do or nothing
+moved_keeps : (right none : Bool) (k : KernelState) (moved : Option Called) → CalledKeeps moved (length k.ends) → CalledKeeps (cond right (cond none (Some (answers k (pos 0))) moved) (Some (answers k EBADF))) (length k.ends)
+moved_keeps true true k moved h = refl
+moved_keeps true false k moved h = h
+moved_keeps false none k moved h = refl
+
+read_keeps : (look : Option Look) (k : KernelState) (pid fd len : ℕ) → CalledKeeps (read_at look k pid fd len) (length k.ends)
+read_keeps None k pid fd len = refl
+read_keeps (Some look) k pid fd len =
+    moved_keeps (can_read look) (len == 0) k (read_in look.target look.offset k pid fd len) (read_in_keeps look.target look.offset k pid fd len)
+
+big_keeps : (b : Bool) (k : KernelState) (io : IoState) (value : ℤ) → CalledKeeps (Some (cond b (answers k EFBIG) (answers (record k { io = io }) value))) (length k.ends)
+big_keeps true k io value = refl
+big_keeps false k io value = refl
+
+full_keeps : (b : Bool) (k : KernelState) (terminal : List ℕ) (value : ℤ) → CalledKeeps (Some (cond b (answers k ENOSPC) (answers (record k { terminal = terminal }) value))) (length k.ends)
+full_keeps true k terminal value = refl
+full_keeps false k terminal value = refl
+
+write_in_keeps : (target : Target) (offset : ℕ) (k : KernelState) (pid fd : ℕ) (bytes : List ℕ) → CalledKeeps (write_in target offset k pid fd bytes) (length k.ends)
+write_in_keeps (File id) offset k pid fd bytes = big_keeps (nat_le 1048576 offset) k (with_write k.io pid fd id offset bytes) (pos (length (fitting offset bytes)))
+write_in_keeps TermOut offset k pid fd bytes = full_keeps (room_of k.terminal == 0) k (k.terminal ++ shown k.terminal bytes) (pos (length (shown k.terminal bytes)))
+write_in_keeps TermIn offset k pid fd bytes = refl
+write_in_keeps (ReadEnd pipe) offset k pid fd bytes = tt
+write_in_keeps (WriteEnd pipe) offset k pid fd bytes = tt
+
+write_keeps : (look : Option Look) (k : KernelState) (pid fd : ℕ) (bytes : List ℕ) → CalledKeeps (write_at look k pid fd bytes) (length k.ends)
+write_keeps None k pid fd bytes = refl
+write_keeps (Some look) k pid fd bytes =
+    moved_keeps (can_write look) (length bytes == 0) k (write_in look.target look.offset k pid fd bytes) (write_in_keeps look.target look.offset k pid fd bytes)
+
+io_keeps : (k : KernelState) (call : Option IoDone) → CalledKeeps (option_map (answers_io k) call) (length k.ends)
+io_keeps k None = tt
+io_keeps k (Some d) = refl
+
+exit_keeps : (k : KernelState) (pid code : ℕ) → CalledKeeps (Some (exited k pid code)) (length k.ends)
+exit_keeps k pid code = length-set k.ends (pid - 1) (Some (Exit (code % 256)))
+
+-- a choice of five
+row_keeps : (a b c d : Bool) (v w x y z : Option Called) (n : ℕ) → CalledKeeps v n → CalledKeeps w n → CalledKeeps x n → CalledKeeps y n → CalledKeeps z n → CalledKeeps (cond a v (cond b w (cond c x (cond d y z)))) n
+row_keeps true b c d v w x y z n p q r s t = p
+row_keeps false true c d v w x y z n p q r s t = q
+row_keeps false false true d v w x y z n p q r s t = r
+row_keeps false false false true v w x y z n p q r s t = s
+row_keeps false false false false v w x y z n p q r s t = t
+
+row_of_keeps : (number : ℕ) (k : KernelState) (pid : ℕ) (args bytes : List ℕ) → CalledKeeps (call_row number k pid args bytes) (length k.ends)
+unfolding call_row
+row_of_keeps number k pid args bytes =
+    row_keeps (number == 1) (number == 8) (number == 9) (number == 19)
+    (Some (exited k pid (slice_index args 0)))
+    (read_result k pid (slice_index args 0) (slice_index args 2))
+    (write_result k pid (slice_index args 0) bytes)
+    (Some (answers k (pos 0)))
+    (option_map (answers_io k) (io_row number k.io pid args bytes))
+    (length k.ends)
+    (exit_keeps k pid (slice_index args 0))
+    (read_keeps (look_at k.io.fds pid (slice_index args 0)) k pid (slice_index args 0) (slice_index args 2))
+    (write_keeps (look_at k.io.fds pid (slice_index args 0)) k pid (slice_index args 0) bytes)
+    refl
+    (io_keeps k (io_row number k.io pid args bytes))
 
 call_keeps : (k : KernelState) (pid : ℕ) (asked : Request) → CalledKeeps (call_result k pid asked) (length k.ends)
-call_keeps k pid asked =
-    some_keeps (asked.number == 1) _ _ (length k.ends) (length-set k.ends (pid - 1) _)
-    (some_keeps (asked.number == 9) _ _ (length k.ends) (either_keeps (is_output (slice_index asked.args 0)) _ _ (length k.ends) (written_keeps k asked.bytes) refl) tt)
+call_keeps k pid asked = row_of_keeps asked.number k pid asked.args asked.bytes
 
 -- ---- and so of the machine
 

@@ -14,7 +14,7 @@ use Rattle.model.specs.declared.phase.Phase.TheVariants.{Goes, Waits, IsServed}
 use Rattle.one_node.specs.declared.going.Ran.TheVariants as ran
 use Rattle.one_node.specs.Going as going
 use Rattle.mosix_shell.specs.Turns.{Moment, Turned, Makes, IsOver, IsUnbuilt, turn_of, go_turn, going_turn, sent_turn, steps_turn, event_after, Story, story, story_of, told_by, is_over, quantum_steps, later_events, first_event, first_moment}
-use Rattle.mosix_shell.specs.Running.{Finishes, IsRunOfStory}
+use Rattle.mosix_shell.specs.Running.{EndsAs, Finishes, IsRunOfStory}
 use Rattle.mosix_shell.specs.declared.run.Run.{Run}
 use Rattle.one_node.specs.declared.going.Ran.{Ran}
 
@@ -107,37 +107,48 @@ go_asks o r number m n e f g =
 
 -- ---- the answers of a run
 
-pub started : (u : UserState) (es : List Event) → es ≡ first_event ∷ [] → story quantum_steps (262143 - 0) es (first_moment u) ≡ story_of u
-started u es e =
-    ap (λ n. story quantum_steps n es (first_moment u)) (sym events_are) ∙ ap (λ xs. story quantum_steps later_events xs (first_moment u)) e
+pub over_at : (all : Story) (n : ℕ) (events : List Event) (now after : Moment) → story quantum_steps n (reverse events) now ≡ all → turn_of quantum_steps now ≡ IsOver → after ≡ now → EndsAs true all after.machine events
+over_at all n events now after left over same =
+    let s : all ≡ record { history = reverse events; last = now; ended = true } = sym left ∙ story_over quantum_steps n (reverse events) now over in
+    (ap (λ (x : Story). x.ended) s, ap (λ (x : Story). x.history) (sym s), ap (λ (x : Story). x.last.machine) s ∙ ap (λ (x : Moment). x.machine) (sym same))
 
-pub over_run : (run : Run) (u : UserState) (n : ℕ) (events : List Event) (now after : Moment) → story quantum_steps n (reverse events) now ≡ story_of u → turn_of quantum_steps now ≡ IsOver → after ≡ now → Finishes run after.machine events
-    → IsRunOfStory run (story_of u)
-over_run run u n events now after left over same f =
-    let s : story_of u ≡ record { history = reverse events; last = now; ended = true } = sym left ∙ story_over quantum_steps n (reverse events) now over in
-    let own : Finishes run after.machine run.events = record { events_are = refl; statuses_are = f.statuses_are; terminal_is = f.terminal_is; files_are = f.files_are; replies_are = f.replies_are; done = f.done } in
-    record {
-      ended = ap (λ (x : Story). x.ended) s;
-      history = ap reverse f.events_are ∙ ap (λ (x : Story). x.history) (sym s);
-      told = subst (λ (x : Moment). Finishes run x.machine run.events) (same ∙ ap (λ (x : Story). x.last) (sym s)) own;
-    }
+pub unbuilt_at : (all : Story) (n : ℕ) (es : List Event) (now : Moment) → story quantum_steps n es now ≡ all → turn_of quantum_steps now ≡ IsUnbuilt → all.ended ≡ false
+unbuilt_at all n es now left h = ap (λ (x : Story). x.ended) (sym left) ∙ story_unbuilt quantum_steps n es now h
 
-pub unbuilt_run : (u : UserState) (n : ℕ) (es : List Event) (now : Moment) → story quantum_steps n es now ≡ story_of u → turn_of quantum_steps now ≡ IsUnbuilt → (story_of u).ended ≡ false
-unbuilt_run u n es now left h = ap (λ (x : Story). x.ended) (sym left) ∙ story_unbuilt quantum_steps n es now h
-
-pub late_run : (u : UserState) (n : ℕ) (es : List Event) (now next : Moment) (what : What) → story quantum_steps n es now ≡ story_of u → n ≡ 0 → turn_of quantum_steps now ≡ Makes what next → (story_of u).ended ≡ false
-late_run u n es now next what left z h =
+pub late_at : (all : Story) (n : ℕ) (es : List Event) (now next : Moment) (what : What) → story quantum_steps n es now ≡ all → n ≡ 0 → turn_of quantum_steps now ≡ Makes what next → all.ended ≡ false
+late_at all n es now next what left z h =
     ap (λ (x : Story). x.ended) (sym left) ∙ ap (λ m. (story quantum_steps m es now).ended) z ∙ story_late quantum_steps es now next what h
 
-pub next_run : (u : UserState) (i : ℕ) (es fs : List Event) (now next : Moment) (what : What) → i < 262143 → story quantum_steps (262143 - i) es now ≡ story_of u → turn_of quantum_steps now ≡ Makes what next → fs ≡ event_after es what ∷ es
-    → story quantum_steps (262143 - (i + 1)) fs next ≡ story_of u
-next_run u i es fs now next what lt left turn is =
-    ap (λ xs. story quantum_steps (262143 - (i + 1)) xs next) is ∙ story_next quantum_steps 262143 i es now next what (story_of u) lt left turn
+pub next_at : (all : Story) (i : ℕ) (es fs : List Event) (now next : Moment) (what : What) → i < 262143 → story quantum_steps (262143 - i) es now ≡ all → turn_of quantum_steps now ≡ Makes what next → fs ≡ event_after es what ∷ es
+    → story quantum_steps (262143 - (i + 1)) fs next ≡ all
+next_at all i es fs now next what lt left turn is =
+    ap (λ xs. story quantum_steps (262143 - (i + 1)) xs next) is ∙ story_next quantum_steps 262143 i es now next what all lt left turn
 
-pub started_at : (u : UserState) (home : MachineState) (o : Option MachineState) (before after : List Event) → o ≡ Some (first_moment u).machine → o ≡ Some home → before ≡ []
-    → reverse after ≡ event_after (reverse before) (whats.Command 1 (Some 1) None None) ∷ reverse before
-    → story quantum_steps 262143 (reverse after) (record { machine = home; phase = Goes }) ≡ story_of u
-started_at u home o before after is here none made =
-    let same : home ≡ (first_moment u).machine = let e : Some home ≡ Some (first_moment u).machine = sym here ∙ is in cc in
-    ap (λ m. story quantum_steps 262143 (reverse after) (record { machine = m; phase = Goes })) same
-    ∙ started u (reverse after) (made ∙ ap (λ xs. event_after (reverse xs) (whats.Command 1 (Some 1) None None) ∷ reverse xs) none)
+-- before the first turn
+pub all_left : (es : List Event) (now : Moment) → story quantum_steps (262143 - 0) es now ≡ story quantum_steps later_events es now
+all_left es now = ap (λ n. story quantum_steps n es now) (sym events_are)
+
+-- the story from the launch is the story of the process
+pub from_launch : (u : UserState) (home : MachineState) (es : List Event) → home ≡ (first_moment u).machine → es ≡ first_event ∷ [] → story quantum_steps later_events es (record { machine = home; phase = Goes }) ≡ story_of u
+from_launch u home es is e =
+    ap (λ m. story quantum_steps later_events es (record { machine = m; phase = Goes })) is ∙ ap (λ xs. story quantum_steps later_events xs (first_moment u)) e
+
+some_same : {A : Type 0} (x y : A) → ◌≡◌ {A = Option A} (Some x) (Some y) → x ≡ y
+some_same x y e = cc
+
+pub launched_home : (home first : MachineState) (o : Option MachineState) → o ≡ Some first → o ≡ Some home → home ≡ first
+launched_home home first o is here = some_same home first (sym here ∙ is)
+
+-- a run that is over, and one that is not
+pub ended_run : (run : Run) (u : UserState) (all : Story) (m : MachineState) (events : List Event) → all ≡ story_of u → EndsAs true all m events → Finishes run m events → IsRunOfStory run (story_of u)
+ended_run run u all m events is e f =
+    let own : Finishes run m run.events = record { events_are = refl; statuses_are = f.statuses_are; terminal_is = f.terminal_is; files_are = f.files_are; replies_are = f.replies_are; done = f.done } in
+    let told : Finishes run all.last.machine run.events = subst (λ (x : MachineState). Finishes run x run.events) (sym e.2) own in
+    record {
+      ended = ap (λ (x : Story). x.ended) (sym is) ∙ e.0;
+      history = ap reverse f.events_are ∙ e.1 ∙ ap (λ (x : Story). x.history) is;
+      told = subst (λ (x : Story). Finishes run x.last.machine run.events) is told;
+    }
+
+pub unended : (u : UserState) (all : Story) → all ≡ story_of u → all.ended ≡ false → (story_of u).ended ≡ false
+unended u all is h = ap (λ (x : Story). x.ended) (sym is) ∙ h

@@ -1,6 +1,7 @@
 -- What the parts of the top call come to.
 use Rattle.std.proofs.Common.{◌≡◌, ◌≢◌, ◌⊎◌, inl, inr, ℕ, ◌<◌, ◌≤◌, List, [], ◌∷◌, length, refl, ap, ◌∙◌, sym, subst, arith, Option, Some, None, Result, Ok, Err, Bool, true, false, cond, nat_lt}
 use Rattle.std.proofs.lemmas.Bool.Decides.{nat_tests}
+use Rattle.call_table.specs.declared.files.Named.{Named}
 use Rattle.call_table.specs.declared.process.PidState.{PidState}
 use Rattle.outside.specs.Outside.{NamedFile, file_named, Loaded, Appends}
 use Rattle.outside.specs.declared.traits.Failed.{Failed}
@@ -119,11 +120,12 @@ written_line old new text given r h e = (r, subst (λ t. Appends old new t r) e 
 pub answer_line : (old new : Option (List ℕ)) (x : Ended) (status : ℕ) (why : Why) (given line : List ℕ) (r : Result (Unit {0}) Failed) → x ≡ record { status = status; why = why; run = None } → Appends old new given r → given ≡ line → line ≡ text_of why → WritesLine old new (text_of x.why)
 answer_line old new x status why given line r is h e f = written_line old new (text_of x.why) given r h (e ∙ f ∙ ap (λ (y : Ended). text_of y.why) (sym is))
 
-text_is : (run : Run) (t text : List ℕ) (st : List (ℕ × PidState)) → text ≡ report_text t st → t ≡ run.terminal → st ≡ run.statuses → text ≡ text_of_run run
-text_is run t text st e a b = e ∙ ap (λ (x : List ℕ). report_text x st) a ∙ ap (report_text run.terminal) b
+text_is : (run : Run) (t text : List ℕ) (st : List (ℕ × PidState)) (fs : List Named) → text ≡ report_text t st fs → t ≡ run.terminal → st ≡ run.statuses → fs ≡ run.files → text ≡ text_of_run run
+text_is run t text st fs e a b f =
+    e ∙ ap (λ (x : List ℕ). report_text x st fs) a ∙ ap (λ (x : List (ℕ × PidState)). report_text run.terminal x fs) b ∙ ap (report_text run.terminal run.statuses) f
 
-pub front_of_answer : (x : Ended) (status : ℕ) (run : Run) (t text given : List ℕ) (st : List (ℕ × PidState)) (old new : Option (List ℕ)) (e : Failed) → x ≡ record { status = status; why = WriteFault; run = Some run }
-    → given ≡ text → text ≡ report_text t st → t ≡ run.terminal → st ≡ run.statuses → Appends old new given (Err e) → WritesRun old new x.run x.why
-front_of_answer x status run t text given st old new e is g q a b h =
-    let own : WritesRun old new (Some run) WriteFault = (Err e, subst (λ s. Appends old new s (Err e)) (g ∙ text_is run t text st q a b) h) in
+pub front_of_answer : (x : Ended) (status : ℕ) (run : Run) (t text given : List ℕ) (st : List (ℕ × PidState)) (fs : List Named) (old new : Option (List ℕ)) (e : Failed) → x ≡ record { status = status; why = WriteFault; run = Some run }
+    → given ≡ text → text ≡ report_text t st fs → t ≡ run.terminal → st ≡ run.statuses → fs ≡ run.files → Appends old new given (Err e) → WritesRun old new x.run x.why
+front_of_answer x status run t text given st fs old new e is g q a b f h =
+    let own : WritesRun old new (Some run) WriteFault = (Err e, subst (λ s. Appends old new s (Err e)) (g ∙ text_is run t text st fs q a b f) h) in
     subst (λ (y : Ended). WritesRun old new y.run y.why) (sym is) own

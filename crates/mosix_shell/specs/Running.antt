@@ -1,5 +1,5 @@
 -- What the answers of the run's parts tell.
-use Rattle.std.specs.Prelude.{◌≡◌, ℕ, List, [], reverse, Option, Some, None, true, false}
+use Rattle.std.specs.Prelude.{◌≡◌, ℕ, List, [], reverse, Option, Some, None, Bool, true, false}
 use Rattle.node_event.specs.declared.event.Event.{Event}
 use Rattle.fs_memory.specs.Files.{named_files}
 use Rattle.model.specs.User.{UserState}
@@ -28,6 +28,11 @@ pub record Finishes (run : Run) (m : MachineState) (events : List Event) : Type 
   pub files_are : run.files ≡ named_files m.kernel.io.files
   pub replies_are : run.replies ≡ m.replies
   pub done : run.last ≡ last.Done
+
+-- a story that has ended, its last state and its events; or one that has not
+abbrev pub EndsAs : Bool → Story → MachineState → List Event → Type 0
+EndsAs true s m events = (s.ended ≡ true) × (reverse events ≡ s.history) × (s.last.machine ≡ m)
+EndsAs false s m events = s.ended ≡ false
 
 -- what a run tells of a whole story that has ended
 pub record IsRunOfStory (run : Run) (s : Story) : Type 0 where

@@ -7,6 +7,7 @@ use Rattle.node_event.specs.declared.event.Way.{Way}
 use Rattle.node_event.specs.declared.event.Way.TheVariants.{Did, Broke, Fell, Paused}
 use Rattle.model.specs.User.{UserState}
 use Rattle.model.specs.Advance.{Walk, quantum_of, request_of, asked_number}
+use Rattle.model.specs.Kernel.{no_process, with_process}
 use Rattle.model.specs.Machine.{MachineState, live_user, ended_of, with_user, done_of, fallen}
 use Rattle.model.specs.declared.phase.Phase.{Phase}
 use Rattle.model.specs.declared.phase.Phase.TheVariants.{Goes, Waits, IsServed}
@@ -108,7 +109,7 @@ first_event = record { stamp = 1; node = 0; what = Command 1 (Some 1) None None 
 
 abbrev pub first_moment : UserState → Moment
 first_moment u = record {
-  machine = record { kernel = record { terminal = []; ends = None ∷ [] }; users = record u { pid = 1 } ∷ []; replies = [] };
+  machine = record { kernel = with_process no_process; users = record u { pid = 1 } ∷ []; replies = [] };
   phase = Goes;
 }
 

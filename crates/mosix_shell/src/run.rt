@@ -3,8 +3,8 @@ ghost use Rattle.std.specs.Prelude.{◌≡◌, ◌<◌, ◌≤◌, ◌+◌, ◌+
 ghost use Rattle.model.specs.User.{UserState};
 ghost use Rattle.model.specs.OnceLaw.{value_gained, way_for};
 ghost use Rattle.model.specs.Machine.{live_user};
-ghost use Rattle.mosix_shell.specs.Turns.{Moment, quantum_steps, event_after, first_event, first_moment, turn_of, go_turn, serve_turn, got_turn, served_what, story, story_of, ends};
-ghost use Rattle.mosix_shell.specs.Running.{MakesTurn, Finishes, RunsTo, moment};
+ghost use Rattle.mosix_shell.specs.Turns.{Moment, quantum_steps, event_after, first_event, first_moment, turn_of, go_turn, serve_turn, got_turn, story, later_events};
+ghost use Rattle.mosix_shell.specs.Running.{MakesTurn, EndsAs, Finishes, RunsTo, moment};
 
 use call_table::{Bytes, End, ListOf, NamedFiles, NoMemory, Replies, Statuses};
 use model::phase::Phase;
@@ -182,14 +182,11 @@ fn finish(alloc: Global, home: &Home, events: Events) -> Result<Run, NoMemory>
     })
 }
 
-/// Runs a process to its end. None exactly where it does not end within a run.
-pub fn run_process(alloc: Global, user: User) -> Result<Option<Run>, NoMemory>
-    ensures { IfOk result (λ run. RunsTo run user) }
+/// The events of a run at its start: line 1 launches process 1.
+fn first_events(alloc: Global) -> Result<Events, NoMemory>
+    ensures first { IfOk result (λ events. reverse events ≡ first_event ∷ []) }
+    ensures len { IfOk result (λ events. length events ≡ 1) }
 {
-    let Some(mut home) = launch(alloc, user)? else {
-        return Ok(None);
-    };
-    let mut phase = Phase::Goes;
     let mut events = Events::new(alloc);
     record_event(
         &mut events,
@@ -200,16 +197,39 @@ pub fn run_process(alloc: Global, user: User) -> Result<Option<Run>, NoMemory>
             poked: None,
         },
     )?;
+    Ok(events)
+}
+
+/// Turn after turn until the process has ended. False where a call is not built, or a further event is due than a run has.
+fn turns(alloc: Global, home: &mut Home, events: &mut Events) -> Result<bool, NoMemory>
+    requires { length events.old ≡ 1 }
+    ensures { IfOk result (λ over. EndsAs over (story quantum_steps later_events (reverse events.old) (moment home.old Phase.Goes)) home.new events.new) }
+{
+    let mut phase = Phase::Goes;
     for _i in 0..EVENTS {
-        match next_turn(alloc, &mut home, &mut phase)? {
-            Turn::Made(what) => record_event(&mut events, what)?,
-            Turn::Over => return Ok(Some(finish(alloc, &home, events)?)),
-            Turn::Unbuilt => return Ok(None),
+        match next_turn(alloc, home, &mut phase)? {
+            Turn::Made(what) => record_event(events, what)?,
+            Turn::Over => return Ok(true),
+            Turn::Unbuilt => return Ok(false),
         }
     }
-    match next_turn(alloc, &mut home, &mut phase)? {
-        Turn::Made(_) => Ok(None),
-        Turn::Over => Ok(Some(finish(alloc, &home, events)?)),
-        Turn::Unbuilt => Ok(None),
+    match next_turn(alloc, home, &mut phase)? {
+        Turn::Made(_) => Ok(false),
+        Turn::Over => Ok(true),
+        Turn::Unbuilt => Ok(false),
     }
+}
+
+/// Runs a process to its end. None exactly where it does not end within a run.
+pub fn run_process(alloc: Global, user: User) -> Result<Option<Run>, NoMemory>
+    ensures { IfOk result (λ run. RunsTo run user) }
+{
+    let mut events = first_events(alloc)?;
+    let Some(mut home) = launch(alloc, user)? else {
+        return Ok(None);
+    };
+    if !turns(alloc, &mut home, &mut events)? {
+        return Ok(None);
+    }
+    Ok(Some(finish(alloc, &home, events)?))
 }
