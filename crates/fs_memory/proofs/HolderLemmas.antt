@@ -154,6 +154,17 @@ some_unlinked slot files other h = holders_some (at_id (after_unlink slot files)
 pub at_unlinked_other : (id : ℕ) (files : FileTable) (other : ℕ) → other ≢ id → at_id (after_unlink (Some id) files) other ≡ at_id files other
 at_unlinked_other id files other ne = at_edited_other files id unlinked other ne
 
+-- a file that was held has a holder after a name is taken away
+pub held_after_unlink : (files mid new : FileTable) (id : ℕ) (slot : Option ℕ) → IsSome (at_id files id) → mid ≡ changed files id held → new ≡ after_unlink slot mid → 1 ≤ holders_of (at_id new id)
+held_after_unlink files mid new id slot there e f =
+    omega (
+      arith,
+      ap (λ fs. holders_of (at_id fs id)) f,
+      holders_unlinked slot mid id,
+      ap (λ fs. holders_of (at_id fs id)) e,
+      holders_held_at files id there,
+    )
+
 -- ---- a new file
 
 -- a new file has no holder, and the others' holders stay

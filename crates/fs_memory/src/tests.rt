@@ -1,4 +1,8 @@
 // Worked cases.
+ghost use Rattle.std.specs.Prelude.{◌<◌, ◌+◌, ◌^◌, IsSome};
+ghost use Rattle.id_table.specs.Places.{at_id};
+ghost use Rattle.fs_memory.specs.Files.{holders_of};
+
 use crate::files::Files;
 use call_table::NoMemory;
 use std::process::Abort;
@@ -101,5 +105,29 @@ fn keeps_what_is_held(rt: HostRuntime) -> Result<(), Fail> {
     assert_eq!(rt; files.unlink(b"a".as_slice()), true);
     assert_eq!(rt; files.find(b"a".as_slice()), None);
     assert_eq!(rt; made(&mut files, b"b".as_slice())?, Some(1));
+    Ok(())
+}
+
+/// Holds a file, takes its name and lets it go. Answers whether the name was there.
+#[tactic(auto, using(crate::proofs::HolderLemmas::held_after_unlink, crate::proofs::HolderLemmas::holders_some))]
+fn held_without_name(files: &mut Files, id: u32, name: &[u8]) -> bool
+    requires there { IsSome (at_id files.old id) }
+    requires few { holders_of (at_id files.old id) + 1 < 2 ^ 32 }
+{
+    files.hold(id);
+    let was = files.unlink(name);
+    files.release(id);
+    was
+}
+
+#[test]
+fn drops_what_is_let_go(rt: HostRuntime) -> Result<(), Fail> {
+    let mut files = Files::new(rt.alloc());
+    let Some(id) = files.create(b"a".as_slice())? else {
+        return Ok(());
+    };
+    assert_eq!(rt; held_without_name(&mut files, id, b"a".as_slice()), true);
+    assert_eq!(rt; files.find(b"a".as_slice()), None);
+    assert_eq!(rt; made(&mut files, b"b".as_slice())?, Some(0));
     Ok(())
 }
