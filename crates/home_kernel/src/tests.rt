@@ -22,6 +22,14 @@ enum Call {
     Dup(u32),
     Unlink(&'static [u8]),
     Yield,
+    /// One more process, which makes the next calls: its pid.
+    Launch,
+    /// The process of this pid makes the next calls.
+    By(u32),
+    /// The process that makes the calls falls by signal 11.
+    Fall,
+    /// How the process of this pid ended.
+    Ended(u32),
 }
 
 use Call::*;
@@ -37,6 +45,12 @@ const BLOCKS: i32 = -1_001;
 
 /// The value of a call that is not built, or of a process that is not live.
 const NO_CALL: i32 = -1_002;
+
+/// No process can be launched, or it has not ended.
+const NONE: i32 = -1_003;
+
+/// This and its signal is how a process ended that fell.
+const SIGNAL: i32 = 1_000;
 
 /// A kernel, and the process whose calls it serves.
 #[derive(Drop)]
@@ -54,14 +68,35 @@ impl Caller {
         Ok(Caller { kernel, alloc, pid })
     }
 
-    fn launch(&mut self) -> Result<(), Fail> {
-        self.pid = self.kernel.launch()?.ok_or("no room")?;
-        Ok(())
+    /// The pid of one more process.
+    fn launch(&mut self) -> Result<i32, Fail> {
+        let Some(pid) = self.kernel.launch()? else {
+            return Ok(NONE);
+        };
+        self.pid = pid;
+        Ok(pid.cast_signed())
     }
 
-    fn fall(&mut self) {
-        if self.kernel.live(self.pid) {
-            let _ = self.kernel.fall(self.pid, 11);
+    fn by(&mut self, pid: u32) -> i32 {
+        self.pid = pid;
+        0
+    }
+
+    fn fall(&mut self) -> i32 {
+        if !self.kernel.live(self.pid) {
+            return NO_CALL;
+        }
+        match self.kernel.fall(self.pid, 11) {
+            Some(_) => 1,
+            None => 0,
+        }
+    }
+
+    fn ended(&self, pid: u32) -> i32 {
+        match self.kernel.ended(pid) {
+            Some(End::Exit(code)) => code as i32,
+            Some(End::Signal(signal)) => SIGNAL + signal as i32,
+            None => NONE,
         }
     }
 
@@ -98,19 +133,28 @@ impl Caller {
         let long = [b'n'; 65];
         match call {
             Exit(code) => self.value(1, [code, 0, 0], none, none),
-            Open(name, flags) => self.value(6, [0, name.len() as u32, flags], name, none),
+            Open(name, flags) => self.value(6, [0, count(name), flags], name, none),
             OpenLong(len, flags) => {
                 self.value(6, [0, len, flags], &long[..len.min(65) as usize], none)
             }
             Close(fd) => self.value(7, [fd, 0, 0], none, none),
             Read(fd, len, want) => self.value(8, [fd, 0, len], none, want),
-            Write(fd, bytes) => self.value(9, [fd, 0, bytes.len() as u32], bytes, none),
+            Write(fd, bytes) => self.value(9, [fd, 0, count(bytes)], bytes, none),
             Seek(fd, off, whence) => self.value(10, [fd, off, whence], none, none),
             Dup(fd) => self.value(12, [fd, 0, 0], none, none),
-            Unlink(name) => self.value(13, [0, name.len() as u32, 0], name, none),
+            Unlink(name) => self.value(13, [0, count(name), 0], name, none),
             Yield => self.value(19, [1, 2, 3], none, none),
+            Launch => self.launch(),
+            By(pid) => Ok(self.by(pid)),
+            Fall => Ok(self.fall()),
+            Ended(pid) => Ok(self.ended(pid)),
         }
     }
+}
+
+/// How many bytes a call hands over, 4,096 at most.
+fn count(bytes: &[u8]) -> u32 {
+    bytes.len().min(4096) as u32
 }
 
 /// The value of an answer with these bytes.
@@ -193,41 +237,54 @@ fn opens_and_names(rt: HostRuntime) -> Result<(), Fail> {
     check_first(&rt, rt.alloc(), &NAMES)
 }
 
+const FLAGS: [(Call, i32); 42] = [
+    (Open(b"a", 0), -22),
+    (Open(b"a", 4), -22),
+    (Open(b"a", 8), -22),
+    (Open(b"a", 9), -22),
+    (Open(b"a", 12), -22),
+    (Open(b"a", 13), -22),
+    (Open(b"a", 16), -22),
+    (Open(b"a", 17), -22),
+    (Open(b"a", 18), -22),
+    (Open(b"a", 19), -22),
+    (Open(b"a", 20), -22),
+    (Open(b"a", 26), -22),
+    (Open(b"a", 28), -22),
+    (Open(b"a", 29), -22),
+    (Open(b"a", 32), -22),
+    (Open(b"a", 38), -22),
+    (Open(b"a", 0x8000_0006), -22),
+    (Open(b"a", 1), -2),
+    (Open(b"a", 2), -2),
+    (Open(b"a", 3), -2),
+    (Open(b"a", 10), -2),
+    (Open(b"a", 11), -2),
+    (Open(b"a", 5), 3),
+    (Unlink(b"a"), 0),
+    (Open(b"a", 6), 4),
+    (Unlink(b"a"), 0),
+    (Open(b"a", 7), 5),
+    (Unlink(b"a"), 0),
+    (Open(b"a", 14), 6),
+    (Unlink(b"a"), 0),
+    (Open(b"a", 15), 7),
+    (Unlink(b"a"), 0),
+    (Open(b"a", 21), 8),
+    (Unlink(b"a"), 0),
+    (Open(b"a", 22), 9),
+    (Unlink(b"a"), 0),
+    (Open(b"a", 23), 10),
+    (Unlink(b"a"), 0),
+    (Open(b"a", 30), 11),
+    (Unlink(b"a"), 0),
+    (Open(b"a", 31), 12),
+    (Unlink(b"a"), 0),
+];
+
 #[test]
 fn flags(rt: HostRuntime) -> Result<(), Fail> {
-    let mut caller = Caller::new(rt.alloc())?;
-    for flags in [
-        0u32,
-        4,
-        8,
-        9,
-        12,
-        13,
-        16,
-        17,
-        18,
-        19,
-        20,
-        26,
-        28,
-        29,
-        32,
-        38,
-        0x8000_0006,
-    ] {
-        check(&rt, &mut caller, &[(Open(b"a", flags), -22)])?;
-    }
-    for flags in [1u32, 2, 3, 10, 11] {
-        check(&rt, &mut caller, &[(Open(b"a", flags), -2)])?;
-    }
-    for flags in [5u32, 6, 7, 14, 15, 21, 22, 23, 30, 31] {
-        check(
-            &rt,
-            &mut caller,
-            &[(Open(b"a", flags), 3), (Close(3), 0), (Unlink(b"a"), 0)],
-        )?;
-    }
-    Ok(())
+    check_first(&rt, rt.alloc(), &FLAGS)
 }
 
 const FULL: [(Call, i32); 17] = [
@@ -489,56 +546,58 @@ fn calls_that_are_not_built(rt: HostRuntime) -> Result<(), Fail> {
     Ok(())
 }
 
-const EXITS: [(Call, i32); 5] = [
+const ENDS: [(Call, i32); 19] = [
     (Open(b"a", 6), 3),
     (Write(3, b"kept"), 4),
     (Open(b"b", 6), 4),
     (Unlink(b"b"), 0),
     (Exit(256 + 7), 0),
-];
-
-const READS_ON: [(Call, i32); 4] = [
+    (Yield, NO_CALL),
+    (Launch, 2),
     (Read(3, 1, b""), -9),
     (Open(b"b", 1), -2),
     (Open(b"a", 1), 3),
     (Read(3, 9, b"kept"), 4),
+    (Fall, 0),
+    (Yield, NO_CALL),
+    (Launch, 3),
+    (Ended(0), NONE),
+    (Ended(1), 7),
+    (Ended(2), SIGNAL + 11),
+    (Ended(3), NONE),
+    (Ended(4), NONE),
 ];
 
 #[test]
 fn ends(rt: HostRuntime) -> Result<(), Fail> {
     let mut caller = Caller::new(rt.alloc())?;
-    check(&rt, &mut caller, &EXITS)?;
-    check(&rt, &mut caller, &[(Yield, NO_CALL)])?;
-    files_are(&rt, &caller, &[(b"a", b"kept")])?;
-    caller.launch()?;
-    check(&rt, &mut caller, &READS_ON)?;
-    caller.fall();
-    caller.launch()?;
-    assert_eq!(rt;
-        caller.kernel.ends(),
-        [Some(End::Exit(7)), Some(End::Signal(11)), None].as_slice()
-    );
-    for pid in [0u32, 3, 4] {
-        assert_eq!(rt; caller.kernel.ended(pid), None);
-    }
-    assert_eq!(rt; caller.kernel.ended(2), Some(End::Signal(11)));
-    Ok(())
+    check(&rt, &mut caller, &ENDS)?;
+    files_are(&rt, &caller, &[(b"a", b"kept")])
 }
 
 /// A new process opens the file `a` this many times.
 fn opens(rt: &impl Abort, caller: &mut Caller, count: i32) -> Result<(), Fail> {
-    caller.launch()?;
+    let _ = caller.launch()?;
     for fd in 0..count {
         check(rt, caller, &[(Open(b"a", 6), 3i32.saturating_add(fd))])?;
     }
     Ok(())
 }
 
-const MOST_OPEN: [(Call, i32); 4] = [
+const MOST_OPEN: [(Call, i32); 6] = [
     (Open(b"a", 6), -23),
     (Open(b"a", 22), -23),
     (Open(b"a", 20), -22),
     (Dup(3), 12),
+    (By(2), 0),
+    (Exit(0), 0),
+];
+
+const FALLS: [(Call, i32); 4] = [
+    (Open(b"a", 6), -24),
+    (By(21), 0),
+    (Open(b"a", 6), -23),
+    (By(3), 0),
 ];
 
 #[test]
@@ -549,33 +608,27 @@ fn an_end_closes_all_descriptors(rt: HostRuntime) -> Result<(), Fail> {
     }
     opens(&rt, &mut caller, 9)?;
     check(&rt, &mut caller, &MOST_OPEN)?;
-    caller.pid = 2;
-    check(&rt, &mut caller, &[(Exit(0), 0)])?;
     opens(&rt, &mut caller, 13)?;
-    caller.pid = 3;
-    caller.fall();
-    opens(&rt, &mut caller, 13)?;
-    caller.pid = 21;
-    check(&rt, &mut caller, &[(Open(b"a", 6), -23)])
+    check(&rt, &mut caller, &FALLS)?;
+    check(&rt, &mut caller, &[(Fall, 0)])?;
+    opens(&rt, &mut caller, 13)
 }
+
+const MOST_LIVE: [(Call, i32); 6] = [
+    (Launch, NONE),
+    (By(40), 0),
+    (Exit(0), 0),
+    (Launch, 65),
+    (Yield, 0),
+    (Launch, NONE),
+];
 
 #[test]
 fn live_processes(rt: HostRuntime) -> Result<(), Fail> {
     let mut caller = Caller::new(rt.alloc())?;
-    for pid in 2..65u32 {
-        let launched = caller.kernel.launch()?;
-        assert_eq!(rt; launched, Some(pid));
+    for pid in 2..65i32 {
+        check(&rt, &mut caller, &[(Launch, pid)])?;
     }
-    let none = caller.kernel.launch()?;
-    assert_eq!(rt; (none, caller.kernel.can_launch()), (None, false));
-    caller.pid = 40;
-    check(&rt, &mut caller, &[(Exit(0), 0)])?;
-    assert_eq!(rt; caller.kernel.can_launch(), true);
-    let next = caller.kernel.launch()?;
-    assert_eq!(rt; (next, caller.kernel.given()), (Some(65), 65));
-    assert_eq!(rt;
-        (caller.kernel.live(65), caller.kernel.live(66)),
-        (true, false)
-    );
-    Ok(())
+    assert_eq!(rt; caller.kernel.can_launch(), false);
+    check(&rt, &mut caller, &MOST_LIVE)
 }
