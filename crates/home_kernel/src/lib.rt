@@ -9,6 +9,8 @@ mod kernel;
 mod names;
 mod places;
 mod terminal;
+#[cfg(test)]
+mod tests;
 mod typed;
 
 pub use kernel::{Kernel, Served, is_built};
