@@ -9,3 +9,4 @@ pub mod Headlines
 pub mod Turning
 pub mod Verdicts
 pub mod Assemblies
+pub mod Modes

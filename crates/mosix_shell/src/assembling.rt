@@ -19,6 +19,7 @@ const TEXT_BYTES: u32 = 1_048_576;
 const PIECE_BYTES: usize = 65_536;
 
 /// The text of a source, or so much of it that it is longer than the limit too.
+#[tactic(auto, using(crate::proofs::Assemblies::read_past))]
 fn read_text<S: Source>(alloc: Global, source: &mut S, limit: u32) -> Result<Bytes, ReadError>
     ensures ok { IfOk result (IsReadPast limit (S.left source.old)) }
     ensures later { S.faults source.old ≤ S.faults source.new }
@@ -31,6 +32,7 @@ fn read_text<S: Source>(alloc: Global, source: &mut S, limit: u32) -> Result<Byt
 }
 
 /// The file of a source's text.
+#[tactic(auto, using(crate::proofs::Assemblies::made_from, crate::proofs::Assemblies::made_nothing))]
 pub fn assemble_source<S: Source>(alloc: Global, source: &mut S) -> Result<Bytes, Why>
     ensures made { IsMadeFrom (S.left source.old) result }
     ensures fault { result ≡ Err Why.ReadFault → Rose (S.faults source.old) (S.faults source.new) }

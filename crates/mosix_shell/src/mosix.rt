@@ -268,6 +268,7 @@ fn run_script<S: Source, I: Images, O: Sink>(
 }
 
 /// Mode `asm`: from the text to its file.
+#[tactic(auto, using(crate::proofs::Assemblies::refused, crate::proofs::Assemblies::wrote, crate::proofs::Assemblies::wrote_front))]
 fn assemble_script<S: Source, O: Sink>(alloc: Global, script: &mut S, out: &mut O) -> Ended
     ensures status { result.status ≡ status_of result.why }
     ensures run { result.run ≡ None }
@@ -286,6 +287,7 @@ fn assemble_script<S: Source, O: Sink>(alloc: Global, script: &mut S, out: &mut 
 }
 
 /// All that the program does.
+#[tactic(auto, using(crate::proofs::Modes::no_bad_words, crate::proofs::Modes::built_words, crate::proofs::Modes::no_run, crate::proofs::Modes::bad_words, crate::proofs::Modes::unbuilt_words, crate::proofs::Modes::run_there))]
 pub fn mosix<S: Source, I: Images, O: Sink>(
     alloc: Global,
     words: &Words,
