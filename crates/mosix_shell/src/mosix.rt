@@ -287,7 +287,7 @@ fn assemble_script<S: Source, O: Sink>(alloc: Global, script: &mut S, out: &mut 
 }
 
 /// All that the program does.
-#[tactic(auto, using(crate::proofs::Modes::no_bad_words, crate::proofs::Modes::built_words, crate::proofs::Modes::no_run, crate::proofs::Modes::bad_words, crate::proofs::Modes::unbuilt_words, crate::proofs::Modes::run_there))]
+#[tactic(auto, using(crate::proofs::Modes::no_bad_words, crate::proofs::Modes::built_words, crate::proofs::Modes::no_run, crate::proofs::Modes::bad_words))]
 pub fn mosix<S: Source, I: Images, O: Sink>(
     alloc: Global,
     words: &Words,
