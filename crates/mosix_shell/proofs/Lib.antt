@@ -8,3 +8,5 @@ pub mod Replaying
 pub mod Headlines
 pub mod Turning
 pub mod Verdicts
+pub mod Assemblies
+pub mod Modes

@@ -15,7 +15,7 @@ use Rattle.mosix_shell.specs.Top.{IsNamed, IsUnnamed, IsImaged, IsLoadedFrom, Is
 use Rattle.mosix_shell.specs.declared.run.Run.{Run}
 use Rattle.mosix_shell.specs.declared.mosix.Ended.{Ended}
 use Rattle.mosix_shell.specs.declared.mosix.Why.{Why}
-use Rattle.mosix_shell.specs.declared.mosix.Why.TheVariants.{Done, BadWords, BadImage, ReadFault, WriteFault, NoMemory, NotBuilt}
+use Rattle.mosix_shell.specs.declared.mosix.Why.TheVariants.{Done, BadWords, BadImage, ReadFault, WriteFault, NoMemory, NotBuilt, BadSource}
 use Rattle.mosix_shell.proofs.Headlines.{replays, lawful}
 
 -- ---- the image of a name
@@ -58,6 +58,7 @@ verdict_reading (Some s) (Some fs) Done r h = absurd r
 verdict_reading (Some s) (Some fs) BadWords r h = absurd r
 verdict_reading (Some s) (Some fs) WriteFault r h = absurd r
 verdict_reading (Some s) (Some fs) (BadImage line kind) r h = absurd r
+verdict_reading (Some s) (Some fs) (BadSource line kind) r h = absurd r
 
 at_image : (s name : List ℕ) (fs : List NamedFile) (r : Result UserState ℕ) → IsNamed (Some s) name → image_named fs name ≡ r → verdict_of s fs ≡ verdict_on r
 at_image s name fs r named h = ap (λ n. verdict_named n fs) named ∙ ap verdict_on h
@@ -71,6 +72,7 @@ verdict_image (Some s) (Some fs) name NoMemory named inner r = tt
 verdict_image (Some s) (Some fs) name Done named inner r = absurd (inner.not_done refl)
 verdict_image (Some s) (Some fs) name BadWords named inner r = tt
 verdict_image (Some s) (Some fs) name WriteFault named inner r = absurd (inner.not_write refl)
+verdict_image (Some s) (Some fs) name (BadSource line kind) named inner r = absurd r
 verdict_image (Some s) (Some fs) name (BadImage line kind) named inner r = at_image s name fs (Err kind) named r.1 ∙ ap (λ l. BadImage l kind) (sym r.0)
 
 pub verdict_done : (left : Option (List ℕ)) (files : Option (List NamedFile)) (name : List ℕ) (u : UserState) → IsNamed left name → IsImaged files name (Ok u) → (story_of u).ended ≡ true → IsVerdict left files Done
@@ -102,6 +104,7 @@ with_run (Some s) (Some fs) ReadFault h e = cc
 with_run (Some s) (Some fs) NoMemory h e = cc
 with_run (Some s) (Some fs) BadWords h e = cc
 with_run (Some s) (Some fs) (BadImage line kind) h e = cc
+with_run (Some s) (Some fs) (BadSource line kind) h e = cc
 
 pub verdict_told : (left : Option (List ℕ)) (files : Option (List NamedFile)) (why : Why) → IsVerdict left files Done → ((has_run why ≡ true) ⊎ (why ≡ NoMemory)) → IsVerdict left files why
 verdict_told left files why h (inl e) = with_run left files why h e

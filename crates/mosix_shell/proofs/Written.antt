@@ -1,7 +1,7 @@
 -- One piece after another.
 use Rattle.std.proofs.Common.{◌≡◌, ℕ, ◌+◌, ◌<◌, List, [], ◌∷◌, ◌++◌, length, take, drop, get_or, refl, ap, ◌∙◌, sym, subst, arith, append_assoc, Option, Some, None, Result, Ok, Err}
 use Rattle.std.proofs.lemmas.Option.{none-some, same_Some}
-use Rattle.std.proofs.lemmas.List.{drop_more}
+use Rattle.std.proofs.lemmas.List.{drop_more, take-append-drop}
 use Rattle.std.specs.List.{flat_map}
 use Rattle.outside.specs.Outside.{Appends, AppendsTo}
 use Rattle.outside.specs.declared.traits.Failed.{Failed}
@@ -38,3 +38,18 @@ pub pieces_err : (a b : Option (List ℕ)) (xs : List (List ℕ)) (i : ℕ) (x b
     → Appends a b bytes (Err e) → Appends a b (flat_map (λ b. b) (drop i xs)) (Err e)
 pieces_err a b xs i x bytes e h is same first =
     subst (λ t. Appends a b t (Err e)) (sym (flat_more xs i x h is)) (appends_err a b x (flat_map (λ b. b) (drop (i + 1) xs)) e (subst (λ t. Appends a b t (Err e)) same first))
+
+-- ---- a piece of bytes, and those behind it
+
+parts : (n : ℕ) (rest piece more : List ℕ) → piece ≡ take n rest → more ≡ drop n rest → rest ≡ piece ++ more
+parts n rest piece more front back = sym ((λ i. front i ++ back i) ∙ take-append-drop n rest)
+
+pub piece_then : (n : ℕ) (a b c : Option (List ℕ)) (rest piece more : List ℕ) (u : Unit {0}) (r : Result (Unit {0}) Failed) → piece ≡ take n rest → more ≡ drop n rest → Appends a b piece (Ok u) → Appends b c more r → Appends a c rest r
+piece_then n a b c rest piece more u r front back h k = subst (λ t. Appends a c t r) (sym (parts n rest piece more front back)) (appends_then a b c piece more u r h k)
+
+pub piece_err : (n : ℕ) (a b : Option (List ℕ)) (rest piece more : List ℕ) (e : Failed) → piece ≡ take n rest → more ≡ drop n rest → Appends a b piece (Err e) → Appends a b rest (Err e)
+piece_err n a b rest piece more e front back h = subst (λ t. Appends a b t (Err e)) (sym (parts n rest piece more front back)) (appends_err a b piece more e h)
+
+-- two numbers, a blank and a newline
+pub line_parts : (a b : List ℕ) → a ++ 32 ∷ (b ++ 10 ∷ []) ≡ ((a ++ 32 ∷ []) ++ b) ++ 10 ∷ []
+line_parts a b = sym (append_assoc (a ++ 32 ∷ []) b (10 ∷ []) ∙ append_assoc a (32 ∷ []) (b ++ 10 ∷ []))

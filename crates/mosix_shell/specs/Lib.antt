@@ -4,3 +4,4 @@ pub mod Turns
 pub mod Running
 pub mod Headline
 pub mod Top
+pub mod Assembling

@@ -4,10 +4,15 @@ use Rattle.std.specs.List.{starts_with, list_all}
 use Rattle.node_event.specs.declared.script.ScriptLine.{ScriptLine}
 use Rattle.node_event.specs.declared.script.Order.TheVariants.{Run}
 
--- what was read of a source, where it tells: all of it, or that it is too long
-abbrev pub IsRead : Option (List ℕ) → Option (List ℕ) → Type 0
-IsRead None r = Unit {0}
-IsRead (Some left) r = MatchOption r (65536 < length left) (λ bytes. bytes ≡ left)
+-- what was read of a source, where it tells: all of it, or that it is longer than the limit
+abbrev pub IsRead : ℕ → Option (List ℕ) → Option (List ℕ) → Type 0
+IsRead limit None r = Unit {0}
+IsRead limit (Some left) r = MatchOption r (limit < length left) (λ bytes. bytes ≡ left)
+
+-- the next bytes were read, to the end or so many of them
+abbrev pub IsReadTo : ℕ → Option (List ℕ) → Option (List ℕ) → List ℕ → Type 0
+IsReadTo most None now bytes = now ≡ None
+IsReadTo most (Some left) now bytes = (bytes ≡ take most left) × (now ≡ Some (drop most left))
 
 -- these bytes were read, and this is left
 abbrev pub IsFront : List ℕ → List ℕ → Option (List ℕ) → Type 0

@@ -11,7 +11,7 @@ use Rattle.mosix_shell.specs.Turns.{ends, quantum_steps}
 use Rattle.mosix_shell.specs.Headline.{Replays, IsLawful}
 use Rattle.mosix_shell.specs.declared.run.Run.{Run}
 use Rattle.mosix_shell.specs.declared.mosix.Why.{Why}
-use Rattle.mosix_shell.specs.declared.mosix.Why.TheVariants.{Done, BadWords, BadImage, ReadFault, WriteFault, NoMemory, NotBuilt}
+use Rattle.mosix_shell.specs.declared.mosix.Why.TheVariants.{Done, BadWords, BadImage, ReadFault, WriteFault, NoMemory, NotBuilt, BadSource}
 
 -- the number of an answer
 abbrev pub status_of : Why → ℕ
@@ -22,6 +22,7 @@ status_of ReadFault = 5
 status_of WriteFault = 6
 status_of NoMemory = 7
 status_of NotBuilt = 10
+status_of (BadSource line kind) = 11
 
 -- the line of an answer without a report
 abbrev pub text_of : Why → List ℕ
@@ -32,12 +33,18 @@ text_of ReadFault = codes "read fault\n"
 text_of WriteFault = []
 text_of NoMemory = []
 text_of NotBuilt = codes "not built\n"
+text_of (BadSource line kind) = codes "bad source " ++ decimal line ++ codes " " ++ decimal kind ++ codes "\n"
 
 -- a run was made to its end
 abbrev pub has_run : Why → Bool
 has_run Done = true
 has_run WriteFault = true
 has_run _ = false
+
+-- an answer of the assembler alone
+abbrev pub is_source_fault : Why → Bool
+is_source_fault (BadSource line kind) = true
+is_source_fault _ = false
 
 -- ---- the answer of a script and of files that are told
 
@@ -74,6 +81,7 @@ AsVerdict (BadImage line kind) verdict = verdict ≡ BadImage line kind
 AsVerdict BadWords verdict = Unit {0}
 AsVerdict ReadFault verdict = Unit {0}
 AsVerdict NoMemory verdict = Unit {0}
+AsVerdict (BadSource line kind) verdict = ⊥
 
 -- ---- the parts of an answer
 
@@ -111,6 +119,7 @@ pub record IsInner (why : Why) : Type 0 where
   pub not_done : why ≢ Done
   pub not_words : why ≢ BadWords
   pub not_write : why ≢ WriteFault
+  pub not_source : is_source_fault why ≡ false
 
 -- an answer that the reading of the script gives
 abbrev pub IsReading : Why → Type 0
@@ -152,4 +161,5 @@ why_of (Err why) = why
 abbrev pub IsRefused : Option (List NamedFile) → List ℕ → Why → Type 0
 IsRefused files name (BadImage line kind) = (line ≡ 1) × IsImaged files name (Err kind)
 IsRefused files name NotBuilt = ⊥
+IsRefused files name (BadSource line kind) = ⊥
 IsRefused files name _ = Unit {0}

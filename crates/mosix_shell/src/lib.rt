@@ -1,6 +1,9 @@
 // The top call: from the words to the report.
 #![tactic(auto)]
 
+#[cfg(test)]
+mod asm_tests;
+pub mod assembling;
 pub mod mosix;
 #[cfg(test)]
 mod play_tests;

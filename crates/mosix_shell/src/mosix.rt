@@ -1,15 +1,17 @@
 // The top call.
-ghost use Rattle.std.specs.Prelude.{◌≡◌, ◌≢◌, ◌↔◌, ◌⊎◌, ◌≤◌, ℕ, List, Some, None, Ok, Err, IfSome, IfOk, IfErr, false, true, IsTrue, is_some, length, ◌∷◌, [], if◌then◌else◌};
+ghost use Rattle.std.specs.Prelude.{◌≡◌, ◌≢◌, ◌↔◌, ◌⊎◌, ◌≤◌, ℕ, List, Some, None, Ok, Err, IfSome, IfOk, IfErr, false, true, IsTrue, is_some, length, ◌∷◌, [], if◌then◌else◌, ◌&&◌};
 ghost use Rattle.outside.specs.Outside.{NamedFile, Rose};
 ghost use Rattle.model.specs.User.{UserState};
-ghost use Rattle.mosix_shell.specs.Words.{is_run_words};
-ghost use Rattle.mosix_shell.specs.Top.{IsRunOf, IsNamed, IsUnnamed, IsLoadedFrom, IsImaged, IsInner, IsReading, status_of, has_run, text_of, why_of, IsVerdict, IsRefused, WritesLine, WritesRun};
+ghost use Rattle.mosix_shell.specs.Words.{are_built, is_asm_words, is_run_words};
+ghost use Rattle.mosix_shell.specs.Top.{IsRunOf, IsNamed, IsUnnamed, IsLoadedFrom, IsImaged, IsInner, IsReading, status_of, has_run, is_source_fault, text_of, why_of, IsVerdict, IsRefused, WritesLine, WritesRun};
 ghost use Rattle.mosix_shell.specs.Running.{RunsTo};
+ghost use Rattle.mosix_shell.specs.Assembling.{IsAssembly, IsMadeFrom};
 
+use crate::assembling::{assemble_source, write_file};
 use crate::report::{report, write_pieces};
 use crate::run::{Run, run_process};
-use crate::script::{ReadError, name_in, read_all, words_of};
-use crate::words::is_run_words;
+use crate::script::{ReadError, SCRIPT_BYTES, name_in, read_all, words_of};
+use crate::words::{is_asm_words, is_run_words};
 use call_table::{Bytes, NoMemory, Text, Words};
 use elf_load::{LoadError, load};
 use outside::{Images, LoadFault, Sink, Source};
@@ -37,6 +39,8 @@ pub enum Why {
     NoMemory,
     /// A form that is not built yet.
     NotBuilt,
+    /// The assembler refused the text.
+    BadSource { line: u32, kind: u8 },
 }
 
 /// What the call answers. A run is there exactly where one was made to its end: at `Done` and `WriteFault`.
@@ -58,6 +62,7 @@ fn status_of(why: Why) -> u8
         Why::WriteFault => 6,
         Why::NoMemory => 7,
         Why::NotBuilt => 10,
+        Why::BadSource { .. } => 11,
     }
 }
 
@@ -66,6 +71,14 @@ fn image_line(alloc: Global, line: u32, kind: u8) -> Result<Bytes, NoMemory>
     ensures { IfOk result (λ text. text ≡ text_of (Why.BadImage line kind)) }
 {
     let text = format!(in alloc; "bad image {line} {kind}\n")?;
+    Ok(Bytes::from_vec(text.into_bytes()))
+}
+
+/// The line of a text that the assembler refused.
+fn source_line(alloc: Global, line: u32, kind: u8) -> Result<Bytes, NoMemory>
+    ensures { IfOk result (λ text. text ≡ text_of (Why.BadSource line kind)) }
+{
+    let text = format!(in alloc; "bad source {line} {kind}\n")?;
     Ok(Bytes::from_vec(text.into_bytes()))
 }
 
@@ -81,6 +94,7 @@ fn line_of(alloc: Global, why: Why) -> Result<Bytes, NoMemory>
         Why::WriteFault => Ok(Bytes::new(alloc)),
         Why::NoMemory => Ok(Bytes::new(alloc)),
         Why::NotBuilt => Bytes::from_slice(alloc, b"not built\n"),
+        Why::BadSource { line, kind } => source_line(alloc, line, kind),
     }
 }
 
@@ -91,7 +105,7 @@ fn script_name<S: Source>(alloc: Global, script: &mut S) -> Result<Text, Why>
     ensures fault { result ≡ Err Why.ReadFault → Rose (S.faults script.old) (S.faults script.new) }
     ensures others { IfErr result (λ why. IsInner why × IsReading why) }
 {
-    let text = match read_all(alloc, script) {
+    let text = match read_all(alloc, script, SCRIPT_BYTES) {
         Ok(text) => text,
         Err(ReadError::Failed) => return Err(Why::ReadFault),
         Err(ReadError::NoMemory) => return Err(Why::NoMemory),
@@ -165,7 +179,7 @@ fn run_words<S: Source, I: Images>(
     ensures verdict { IsVerdict (S.left script.old) (I.files images.old) (why_of result) }
     ensures words { (result ≡ Err Why.BadWords) ↔ (is_run_words words.now ≡ false) }
     ensures fault { result ≡ Err Why.ReadFault → Rose (S.faults script.old) (S.faults script.new) ⊎ Rose (I.faults images.old) (I.faults images.new) }
-    ensures others { IfErr result (λ why. has_run why ≡ false) }
+    ensures others { IfErr result (λ why. (has_run why ≡ false) × (is_source_fault why ≡ false)) }
 {
     if !is_run_words(words) {
         return Err(Why::BadWords);
@@ -233,8 +247,8 @@ fn tell<O: Sink>(alloc: Global, out: &mut O, run: Run) -> Ended
     }
 }
 
-/// All that the program does.
-pub fn mosix<S: Source, I: Images, O: Sink>(
+/// Mode `run`, and words of no mode.
+fn run_script<S: Source, I: Images, O: Sink>(
     alloc: Global,
     words: &Words,
     script: &mut S,
@@ -242,15 +256,11 @@ pub fn mosix<S: Source, I: Images, O: Sink>(
     out: &mut O,
 ) -> Ended
     ensures status { result.status ≡ status_of result.why }
-    // A run is there exactly at Done, and at a write fault after a run.
     ensures has_run { is_some result.run ≡ has_run result.why }
-    // Replay, the script law, the once law, the stamps.
     ensures run { IfSome result.run (IsRunOf (S.left script.old) (I.files images.old)) }
-    // Exactly where: by the fate of the process.
     ensures exact { IsVerdict (S.left script.old) (I.files images.old) result.why }
-    // Printed.
+    ensures source { is_source_fault result.why ≡ false }
     ensures written { WritesRun (O.written out.old) (O.written out.new) result.run result.why }
-
     ensures bad_words { result.why ≡ Why.BadWords → is_run_words words.now ≡ false }
     ensures words { is_run_words words.now ≡ false → (result.why ≡ Why.BadWords) ⊎ (result.why ≡ Why.NoMemory) }
     ensures read { result.why ≡ Why.ReadFault → Rose (S.faults script.old) (S.faults script.new) ⊎ Rose (I.faults images.old) (I.faults images.new) }
@@ -260,4 +270,59 @@ pub fn mosix<S: Source, I: Images, O: Sink>(
         Err(why) => refuse(alloc, out, why),
         Ok(run) => tell(alloc, out, run),
     }
+}
+
+/// Mode `asm`: from the text to its file.
+#[tactic(auto, using(crate::proofs::Assemblies::refused, crate::proofs::Assemblies::wrote, crate::proofs::Assemblies::wrote_front))]
+fn assemble_script<S: Source, O: Sink>(alloc: Global, script: &mut S, out: &mut O) -> Ended
+    ensures status { result.status ≡ status_of result.why }
+    ensures run { result.run ≡ None }
+    ensures assembly { IsAssembly (S.left script.old) (O.written out.old) (O.written out.new) result.why }
+    ensures read { result.why ≡ Why.ReadFault → Rose (S.faults script.old) (S.faults script.new) }
+    ensures write { result.why ≡ Why.WriteFault → Rose (O.faults out.old) (O.faults out.new) }
+{
+    let file = match assemble_source(alloc, script) {
+        Ok(file) => file,
+        Err(why) => return refuse(alloc, out, why),
+    };
+    match write_file(out, file.as_slice()) {
+        Ok(()) => answer(Why::Done, None),
+        Err(_) => answer(Why::WriteFault, None),
+    }
+}
+
+/// All that the program does.
+#[tactic(auto, using(crate::proofs::Modes::no_bad_words, crate::proofs::Modes::built_words, crate::proofs::Modes::no_run, crate::proofs::Modes::bad_words))]
+pub fn mosix<S: Source, I: Images, O: Sink>(
+    alloc: Global,
+    words: &Words,
+    script: &mut S,
+    images: &mut I,
+    out: &mut O,
+) -> Ended
+    ensures status { result.status ≡ status_of result.why }
+    ensures bad_words { result.why ≡ Why.BadWords → are_built words.now ≡ false }
+    ensures words { are_built words.now ≡ false → (result.why ≡ Why.BadWords) ⊎ (result.why ≡ Why.NoMemory) }
+    ensures read { result.why ≡ Why.ReadFault → Rose (S.faults script.old) (S.faults script.new) ⊎ Rose (I.faults images.old) (I.faults images.new) }
+    ensures write { result.why ≡ Why.WriteFault → Rose (O.faults out.old) (O.faults out.new) }
+
+    // A run is there exactly in mode `run`, at Done and at a write fault after a run.
+    ensures has_run { is_some result.run ≡ (is_run_words words.now && has_run result.why) }
+    // Replay, the script law, the once law, the stamps.
+    ensures run { IfSome result.run (IsRunOf (S.left script.old) (I.files images.old)) }
+    // Exactly where, but in mode `asm`: by the fate of the process.
+    ensures exact { is_asm_words words.now ≡ false → IsVerdict (S.left script.old) (I.files images.old) result.why }
+    // Printed, but in mode `asm`.
+    ensures written { is_asm_words words.now ≡ false → WritesRun (O.written out.old) (O.written out.new) result.run result.why }
+
+    // Mode `asm`: the file of the text, or its first fault, and what is written.
+    ensures assembly { is_asm_words words.now ≡ true → IsAssembly (S.left script.old) (O.written out.old) (O.written out.new) result.why }
+    ensures source { is_source_fault result.why ≡ true → is_asm_words words.now ≡ true }
+    ensures source_read { is_asm_words words.now ≡ true → result.why ≡ Why.ReadFault → Rose (S.faults script.old) (S.faults script.new) }
+    ensures no_image { is_asm_words words.now ≡ true → images.new ≡ images.old }
+{
+    if is_asm_words(words) {
+        return assemble_script(alloc, script, out);
+    }
+    run_script(alloc, words, script, images, out)
 }

@@ -17,7 +17,7 @@ pub const HELLO: [u8; 123] = [
     0x69, 0x0a,
 ];
 
-fn named(alloc: Global, name: &[u8], bytes: &[u8]) -> Result<Named, NoMemory> {
+pub fn named(alloc: Global, name: &[u8], bytes: &[u8]) -> Result<Named, NoMemory> {
     Ok(Named {
         name: Bytes::from_slice(alloc, name)?,
         bytes: Bytes::from_slice(alloc, bytes)?,
@@ -25,10 +25,10 @@ fn named(alloc: Global, name: &[u8], bytes: &[u8]) -> Result<Named, NoMemory> {
 }
 
 /// lui a0, 0x80000; sw x0, -2(a0): a store across the end of the stack.
-const EDGE: [u32; 2] = [0x8000_0537, 0xFE05_2F23];
+pub const EDGE: [u32; 2] = [0x8000_0537, 0xFE05_2F23];
 
 /// A jump by this word to a place in a0, from where the program exits with 5.
-fn jump(word: u32) -> [u32; 8] {
+pub fn jump(word: u32) -> [u32; 8] {
     [
         0x0001_0537,
         0x00C5_0513,
@@ -42,7 +42,7 @@ fn jump(word: u32) -> [u32; 8] {
 }
 
 /// The file of some words of this many bytes, with the headers of hello.
-fn program(alloc: Global, name: &[u8], size: u8, code: &[u32]) -> Result<Named, NoMemory> {
+pub fn program(alloc: Global, name: &[u8], size: u8, code: &[u32]) -> Result<Named, NoMemory> {
     let mut headers = HELLO;
     headers[68] = size;
     headers[72] = size;
@@ -75,7 +75,7 @@ fn images(alloc: Global) -> Result<Names, NoMemory> {
     Ok(images)
 }
 
-fn words_of(alloc: Global, list: &[&str]) -> Result<Words, NoMemory> {
+pub fn words_of(alloc: Global, list: &[&str]) -> Result<Words, NoMemory> {
     let mut words = Words::new(alloc);
     for word in list {
         words.push(Text::new(alloc, word)?)?;
@@ -83,7 +83,7 @@ fn words_of(alloc: Global, list: &[&str]) -> Result<Words, NoMemory> {
     Ok(words)
 }
 
-fn calls(alloc: Global, number: u64) -> Result<Calls, NoMemory> {
+pub fn calls(alloc: Global, number: u64) -> Result<Calls, NoMemory> {
     let mut calls = Calls::new(alloc);
     if number > 0 {
         calls.push(number)?;
@@ -107,7 +107,7 @@ fn run(
     Ok((ended, sink))
 }
 
-const RUN: [&str; 3] = ["--nodes", "1", "run"];
+pub const RUN: [&str; 3] = ["--nodes", "1", "run"];
 
 #[test]
 fn texts_and_statuses(rt: HostRuntime) -> Result<(), Fail> {

@@ -1,7 +1,7 @@
 // The words of the program.
 ghost use Rattle.std.specs.Prelude.{◌≡◌};
 ghost use Rattle.std.specs.Option.{option_copied};
-ghost use Rattle.mosix_shell.specs.Words.{is_run_words};
+ghost use Rattle.mosix_shell.specs.Words.{is_asm_words, is_run_words};
 
 use call_table::{Text, Words};
 
@@ -25,4 +25,20 @@ fn are_run_words(words: &[Text]) -> bool
         return false;
     }
     words[2].as_str() == "run"
+}
+
+/// Whether the words are `asm` alone.
+pub fn is_asm_words(words: &Words) -> bool
+    ensures { result ≡ is_asm_words words.now }
+{
+    are_asm_words(words.as_slice())
+}
+
+fn are_asm_words(words: &[Text]) -> bool
+    ensures { result ≡ is_asm_words words.now }
+{
+    if words.len() != 1 {
+        return false;
+    }
+    words[0].as_str() == "asm"
 }

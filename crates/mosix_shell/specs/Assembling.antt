@@ -1,0 +1,58 @@
+-- Mode `asm`: what a source's text comes to, and what is written.
+use Rattle.std.specs.Prelude.{◌≡◌, ◌≤◌, ◌<◌, ℕ, List, length, Option, Some, None, Result, Ok, Err}
+use Rattle.rv_asm.specs.Assembly.{assembled}
+use Rattle.rv_asm.specs.Refusals.{IsRefusal}
+use Rattle.rv_asm.specs.declared.fault.Fault.{Fault}
+use Rattle.rv_asm.specs.declared.fault.AsmError.TheVariants.{Source}
+use Rattle.mosix_shell.specs.Top.{text_of, WritesAll, WritesLine}
+use Rattle.mosix_shell.specs.declared.mosix.Why.{Why}
+use Rattle.mosix_shell.specs.declared.mosix.Why.TheVariants.{Done, BadWords, BadImage, ReadFault, WriteFault, NoMemory, NotBuilt, BadSource}
+
+-- what was read of a source, where it tells: all of it, or more than the limit
+abbrev pub IsReadPast : ℕ → Option (List ℕ) → List ℕ → Type 0
+IsReadPast limit None bytes = Unit {0}
+IsReadPast limit (Some left) bytes = (length left ≤ limit → bytes ≡ left) × (limit < length left → limit < length bytes)
+
+-- a source's text, where it is told
+abbrev pub IsTextOf : Option (List ℕ) → List ℕ → Type 0
+IsTextOf None text = Unit {0}
+IsTextOf (Some left) text = text ≡ left
+
+-- the text's first fault, unless the source failed or memory was wanting
+abbrev pub IsFaultOf : Result (List ℕ) Fault → Why → Type 0
+IsFaultOf outcome (BadSource line kind) = IsRefusal outcome (Source line kind)
+IsFaultOf outcome ReadFault = Unit {0}
+IsFaultOf outcome NoMemory = Unit {0}
+IsFaultOf outcome Done = ⊥
+IsFaultOf outcome BadWords = ⊥
+IsFaultOf outcome (BadImage line kind) = ⊥
+IsFaultOf outcome WriteFault = ⊥
+IsFaultOf outcome NotBuilt = ⊥
+
+-- the text's file, or why there is none
+abbrev pub IsMadeOf : Result (List ℕ) Fault → Result (List ℕ) Why → Type 0
+IsMadeOf outcome (Ok file) = outcome ≡ Ok file
+IsMadeOf outcome (Err why) = IsFaultOf outcome why
+
+-- what is made of the text of a source
+pub record IsMadeFrom (left : Option (List ℕ)) (made : Result (List ℕ) Why) : Type 0 where
+  pub text : List ℕ
+  pub text_is : IsTextOf left text
+  pub made_is : IsMadeOf (assembled text) made
+
+-- all of the file at Done, a front of it where the sink failed, else the answer's line or a front of it
+abbrev pub WritesFile : Result (List ℕ) Fault → Option (List ℕ) → Option (List ℕ) → Why → Type 0
+WritesFile outcome old new Done = (file : List ℕ) × (outcome ≡ Ok file) × WritesAll old new file
+WritesFile outcome old new WriteFault = (file : List ℕ) × (outcome ≡ Ok file) × WritesLine old new file
+WritesFile outcome old new (BadSource line kind) = IsRefusal outcome (Source line kind) × WritesLine old new (text_of (BadSource line kind))
+WritesFile outcome old new ReadFault = WritesLine old new (text_of ReadFault)
+WritesFile outcome old new NoMemory = WritesLine old new (text_of NoMemory)
+WritesFile outcome old new BadWords = ⊥
+WritesFile outcome old new (BadImage line kind) = ⊥
+WritesFile outcome old new NotBuilt = ⊥
+
+-- the answer of a source's text: by `assembled`, where the source is told
+pub record IsAssembly (left old new : Option (List ℕ)) (why : Why) : Type 0 where
+  pub text : List ℕ
+  pub text_is : IsTextOf left text
+  pub written : WritesFile (assembled text) old new why

@@ -1,0 +1,2 @@
+# Goes on for ever from its first instruction: it fills the journal with steps.
+l:  j l
