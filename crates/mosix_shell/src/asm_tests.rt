@@ -134,7 +134,7 @@ fn texts_of_images(rt: HostRuntime) -> Result<(), Fail> {
 }
 
 /// What a text's program writes when it is assembled and run.
-fn run_text(alloc: Global, text: &[u8]) -> Result<MemSink, NoMemory> {
+pub fn run_text(alloc: Global, text: &[u8]) -> Result<MemSink, NoMemory> {
     let (_ended, file) = asm(alloc, text, 0, 0)?;
     let mut images = Names::new(alloc);
     images.push(named(alloc, b"program", file.bytes())?)?;

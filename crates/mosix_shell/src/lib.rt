@@ -4,6 +4,8 @@
 #[cfg(test)]
 mod asm_tests;
 pub mod assembling;
+#[cfg(test)]
+mod file_tests;
 pub mod mosix;
 #[cfg(test)]
 mod play_tests;

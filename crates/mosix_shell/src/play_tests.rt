@@ -1,8 +1,8 @@
 // The plain system on one node by its own calls, and the calls that take memory, with memory enough.
 use crate::report::report;
 use crate::script::{script_of, words_of};
-use crate::tests::{HELLO, REPLIES};
-use call_table::{End, PidState};
+use crate::tests::{HELLO, REPLIES, named};
+use call_table::{End, NamedFiles, PidState};
 use elf_load::load;
 use node_event::Order;
 use one_node::Step;
@@ -115,7 +115,7 @@ const STATES: [(u32, PidState); 4] = [
 ];
 
 /// The pieces of their report.
-const PIECES: [&str; 8] = [
+const PIECES: [&str; 11] = [
     "terminal 2\n",
     "ab",
     "\n",
@@ -123,6 +123,9 @@ const PIECES: [&str; 8] = [
     "process 2 signal 9\n",
     "process 3 blocked 8\n",
     "process 4 live\n",
+    "file f 3\n",
+    "xyz",
+    "\n",
     "done\n",
 ];
 
@@ -138,7 +141,9 @@ fn a_script_and_a_report(rt: HostRuntime) -> Result<(), Fail> {
         }
         _ => assert!(rt; false),
     }
-    let pieces = report(alloc, b"ab", &STATES)?;
+    let mut files = NamedFiles::new(alloc);
+    files.push(named(alloc, b"f", b"xyz")?)?;
+    let pieces = report(alloc, b"ab", &STATES, files.as_slice())?;
     assert_eq!(rt; pieces.len(), PIECES.len());
     for (piece, want) in pieces.as_slice().iter().zip(PIECES.iter()) {
         assert!(rt; piece.as_slice() == want.as_bytes());
