@@ -99,7 +99,7 @@ open_called (Some id) io pid name flags = open_found io pid id flags
 abbrev pub open_result : IoState → ℕ → ℕ → List ℕ → ℕ → IoDone
 open_result io pid len name flags =
     unless (name_error len name) io
-        (unless (flags_error flags) io (unless (room_error io.fds pid) io (open_called (id_called name io.files) io pid name flags)))
+    (unless (flags_error flags) io (unless (room_error io.fds pid) io (open_called (id_called name io.files) io pid name flags)))
 
 -- ---- close
 
