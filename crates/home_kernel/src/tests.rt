@@ -307,13 +307,17 @@ const FULL: [(Call, i32); 17] = [
     (Dup(3), -24),
 ];
 
+fn sixteen_descriptors_by(rt: &impl Abort, caller: &mut Caller) -> Result<(), Fail> {
+    for fd in 3..16i32 {
+        check(rt, caller, &[(Open(b"a", 6), fd)])?;
+    }
+    check(rt, caller, &FULL)
+}
+
 #[test]
 fn sixteen_descriptors(rt: HostRuntime) -> Result<(), Fail> {
     let mut caller = Caller::new(rt.alloc())?;
-    for fd in 3..16i32 {
-        check(&rt, &mut caller, &[(Open(b"a", 6), fd)])?;
-    }
-    check(&rt, &mut caller, &FULL)
+    sixteen_descriptors_by(&rt, &mut caller)
 }
 
 const NAMES_FULL: [(Call, i32); 5] = [
@@ -324,16 +328,20 @@ const NAMES_FULL: [(Call, i32); 5] = [
     (Open(b"new", 6), 4),
 ];
 
-#[test]
-fn names_128(rt: HostRuntime) -> Result<(), Fail> {
-    let mut caller = Caller::new(rt.alloc())?;
+fn names_128_by(rt: &impl Abort, caller: &mut Caller) -> Result<(), Fail> {
     for i in 0..128u8 {
         let name = [b'a' + i / 16, b'A' + i % 16];
         let fd = caller.value(6, [0, 2, 6], &name, b"")?;
         assert_eq!(rt; fd, 3);
-        check(&rt, &mut caller, &[(Close(3), 0)])?;
+        check(rt, caller, &[(Close(3), 0)])?;
     }
-    check(&rt, &mut caller, &NAMES_FULL)
+    check(rt, caller, &NAMES_FULL)
+}
+
+#[test]
+fn names_128(rt: HostRuntime) -> Result<(), Fail> {
+    let mut caller = Caller::new(rt.alloc())?;
+    names_128_by(&rt, &mut caller)
 }
 
 const READ_BACK: [(Call, i32); 33] = [
@@ -442,13 +450,17 @@ const GONE: [(Call, i32); 6] = [
     (Write(5, b"new"), 3),
 ];
 
+fn held_files_by(rt: &impl Abort, caller: &mut Caller) -> Result<(), Fail> {
+    check(rt, caller, &WITHOUT_NAME)?;
+    files_are(rt, caller, &[(b"a", b"")])?;
+    check(rt, caller, &GONE)?;
+    files_are(rt, caller, &[(b"B", b""), (b"a", b"new")])
+}
+
 #[test]
 fn held_files(rt: HostRuntime) -> Result<(), Fail> {
     let mut caller = Caller::new(rt.alloc())?;
-    check(&rt, &mut caller, &WITHOUT_NAME)?;
-    files_are(&rt, &caller, &[(b"a", b"")])?;
-    check(&rt, &mut caller, &GONE)?;
-    files_are(&rt, &caller, &[(b"B", b""), (b"a", b"new")])
+    held_files_by(&rt, &mut caller)
 }
 
 const FILES: [(Call, i32); 8] = [
@@ -462,13 +474,11 @@ const FILES: [(Call, i32); 8] = [
     (Write(3, b"three"), 5),
 ];
 
-#[test]
-fn files_by_the_bytes_of_their_names(rt: HostRuntime) -> Result<(), Fail> {
-    let mut caller = Caller::new(rt.alloc())?;
-    check(&rt, &mut caller, &FILES)?;
+fn files_by_the_bytes_of_their_names_by(rt: &impl Abort, caller: &mut Caller) -> Result<(), Fail> {
+    check(rt, caller, &FILES)?;
     files_are(
-        &rt,
-        &caller,
+        rt,
+        caller,
         &[
             (b"B", b""),
             (b"a", b""),
@@ -478,6 +488,12 @@ fn files_by_the_bytes_of_their_names(rt: HostRuntime) -> Result<(), Fail> {
             (b"~", b""),
         ],
     )
+}
+
+#[test]
+fn files_by_the_bytes_of_their_names(rt: HostRuntime) -> Result<(), Fail> {
+    let mut caller = Caller::new(rt.alloc())?;
+    files_by_the_bytes_of_their_names_by(&rt, &mut caller)
 }
 
 const SHOWN: [(Call, i32); 4] = [
@@ -493,17 +509,21 @@ const SHOWN_LAST: [(Call, i32); 3] = [
     (Write(1, b""), 0),
 ];
 
+fn terminal_output_by(rt: &impl Abort, caller: &mut Caller) -> Result<(), Fail> {
+    check(rt, caller, &SHOWN)?;
+    assert_eq!(rt; caller.kernel.terminal(), b"hi\nxy".as_slice());
+    let most = vec![in caller.alloc; b'.'; 16_777_209]?;
+    let value = caller.value(9, [1, 0, 16_777_209], most.as_slice(), b"")?;
+    assert_eq!(rt; value, 16_777_209);
+    check(rt, caller, &SHOWN_LAST)?;
+    assert_eq!(rt; caller.kernel.terminal().len(), 16_777_216);
+    Ok(())
+}
+
 #[test]
 fn terminal_output(rt: HostRuntime) -> Result<(), Fail> {
     let mut caller = Caller::new(rt.alloc())?;
-    check(&rt, &mut caller, &SHOWN)?;
-    assert_eq!(rt; caller.kernel.terminal(), b"hi\nxy".as_slice());
-    let most = vec![in rt.alloc(); b'.'; 16_777_209]?;
-    let value = caller.value(9, [1, 0, 16_777_209], most.as_slice(), b"")?;
-    assert_eq!(rt; value, 16_777_209);
-    check(&rt, &mut caller, &SHOWN_LAST)?;
-    assert_eq!(rt; caller.kernel.terminal().len(), 16_777_216);
-    Ok(())
+    terminal_output_by(&rt, &mut caller)
 }
 
 const TYPED: [(Call, i32); 3] = [
@@ -518,32 +538,40 @@ const TYPED_LAST: [(Call, i32); 3] = [
     (Read(0, 4, b""), 0),
 ];
 
-#[test]
-fn terminal_input(rt: HostRuntime) -> Result<(), Fail> {
-    let mut caller = Caller::new(rt.alloc())?;
+fn terminal_input_by(rt: &impl Abort, caller: &mut Caller) -> Result<(), Fail> {
     caller.kernel.feed(b"")?;
     check(
-        &rt,
-        &mut caller,
+        rt,
+        caller,
         &[(Read(0, 4, b""), BLOCKS), (Read(0, 0, b""), 0)],
     )?;
     caller.kernel.feed(b"abc")?;
     caller.kernel.feed(b"de\n")?;
-    check(&rt, &mut caller, &TYPED)?;
+    check(rt, caller, &TYPED)?;
     caller.kernel.feed(&[b'z'; 5000])?;
     caller.kernel.end_input();
     caller.kernel.feed(b"late")?;
-    check(&rt, &mut caller, &TYPED_LAST)
+    check(rt, caller, &TYPED_LAST)
 }
 
 #[test]
-fn calls_that_are_not_built(rt: HostRuntime) -> Result<(), Fail> {
+fn terminal_input(rt: HostRuntime) -> Result<(), Fail> {
     let mut caller = Caller::new(rt.alloc())?;
+    terminal_input_by(&rt, &mut caller)
+}
+
+fn calls_that_are_not_built_by(rt: &impl Abort, caller: &mut Caller) -> Result<(), Fail> {
     for number in [0u32, 2, 3, 4, 5, 11, 14, 15, 16, 17, 18, 20, u32::MAX] {
         let value = caller.value(number, [0, 0, 0], b"", b"")?;
         assert_eq!(rt; value, NO_CALL, "{number}");
     }
     Ok(())
+}
+
+#[test]
+fn calls_that_are_not_built(rt: HostRuntime) -> Result<(), Fail> {
+    let mut caller = Caller::new(rt.alloc())?;
+    calls_that_are_not_built_by(&rt, &mut caller)
 }
 
 const ENDS: [(Call, i32); 19] = [
@@ -568,11 +596,15 @@ const ENDS: [(Call, i32); 19] = [
     (Ended(4), NONE),
 ];
 
+fn ends_by(rt: &impl Abort, caller: &mut Caller) -> Result<(), Fail> {
+    check(rt, caller, &ENDS)?;
+    files_are(rt, caller, &[(b"a", b"kept")])
+}
+
 #[test]
 fn ends(rt: HostRuntime) -> Result<(), Fail> {
     let mut caller = Caller::new(rt.alloc())?;
-    check(&rt, &mut caller, &ENDS)?;
-    files_are(&rt, &caller, &[(b"a", b"kept")])
+    ends_by(&rt, &mut caller)
 }
 
 /// A new process opens the file `a` this many times.
@@ -600,18 +632,22 @@ const FALLS: [(Call, i32); 4] = [
     (By(3), 0),
 ];
 
+fn an_end_closes_all_descriptors_by(rt: &impl Abort, caller: &mut Caller) -> Result<(), Fail> {
+    for _ in 0..19 {
+        opens(rt, caller, 13)?;
+    }
+    opens(rt, caller, 9)?;
+    check(rt, caller, &MOST_OPEN)?;
+    opens(rt, caller, 13)?;
+    check(rt, caller, &FALLS)?;
+    check(rt, caller, &[(Fall, 0)])?;
+    opens(rt, caller, 13)
+}
+
 #[test]
 fn an_end_closes_all_descriptors(rt: HostRuntime) -> Result<(), Fail> {
     let mut caller = Caller::new(rt.alloc())?;
-    for _ in 0..19 {
-        opens(&rt, &mut caller, 13)?;
-    }
-    opens(&rt, &mut caller, 9)?;
-    check(&rt, &mut caller, &MOST_OPEN)?;
-    opens(&rt, &mut caller, 13)?;
-    check(&rt, &mut caller, &FALLS)?;
-    check(&rt, &mut caller, &[(Fall, 0)])?;
-    opens(&rt, &mut caller, 13)
+    an_end_closes_all_descriptors_by(&rt, &mut caller)
 }
 
 const MOST_LIVE: [(Call, i32); 6] = [
@@ -623,12 +659,16 @@ const MOST_LIVE: [(Call, i32); 6] = [
     (Launch, NONE),
 ];
 
+fn live_processes_by(rt: &impl Abort, caller: &mut Caller) -> Result<(), Fail> {
+    for pid in 2..65i32 {
+        check(rt, caller, &[(Launch, pid)])?;
+    }
+    assert_eq!(rt; caller.kernel.can_launch(), false);
+    check(rt, caller, &MOST_LIVE)
+}
+
 #[test]
 fn live_processes(rt: HostRuntime) -> Result<(), Fail> {
     let mut caller = Caller::new(rt.alloc())?;
-    for pid in 2..65i32 {
-        check(&rt, &mut caller, &[(Launch, pid)])?;
-    }
-    assert_eq!(rt; caller.kernel.can_launch(), false);
-    check(&rt, &mut caller, &MOST_LIVE)
+    live_processes_by(&rt, &mut caller)
 }

@@ -83,16 +83,18 @@ fn steps_that_are_not_enabled(rt: HostRuntime) -> Result<(), Fail> {
     Ok(())
 }
 
-#[test]
-fn a_home_by_its_calls(rt: HostRuntime) -> Result<(), Fail> {
-    let alloc = rt.alloc();
-    let setup = hello(alloc)?;
-    let mut home = Home::new(alloc);
+/// A home makes the whole run of process 1 by its calls.
+fn goes_to_its_end(
+    rt: &impl Abort,
+    alloc: Global,
+    home: &mut Home,
+    setup: &Setup,
+) -> Result<(), Fail> {
     let launched = Applied::Did {
         raised: None,
         reply: None,
     };
-    assert_eq!(rt; home.apply(alloc, &setup, &Step::Launch(0)), Ok(launched));
+    assert_eq!(rt; home.apply(alloc, setup, &Step::Launch(0)), Ok(launched));
     for (steps, number, reply) in [(5, 9, REPLIES[0]), (2, 1, REPLIES[1])] {
         assert_eq!(rt; home.ended(1), None);
         assert_eq!(rt; home.go(alloc, 1, 16_384), Ok(Some(Ran::Steps(steps))));
@@ -102,8 +104,15 @@ fn a_home_by_its_calls(rt: HostRuntime) -> Result<(), Fail> {
     assert_eq!(rt; home.ended(1), Some(End::Exit(0)));
     assert_eq!(rt; home.go(alloc, 1, 1), Ok(None));
     assert_eq!(rt; home.serve(alloc, 1), Ok(None));
-    tells_hello(&rt, &home.outcome(alloc)?);
+    tells_hello(rt, &home.outcome(alloc)?);
     Ok(())
+}
+
+#[test]
+fn a_home_by_its_calls(rt: HostRuntime) -> Result<(), Fail> {
+    let setup = hello(rt.alloc())?;
+    let mut home = Home::new(rt.alloc());
+    goes_to_its_end(&rt, rt.alloc(), &mut home, &setup)
 }
 
 /// One process of each state.
