@@ -6,6 +6,4 @@ pub mod mosix;
 pub mod report;
 pub mod run;
 pub mod script;
-#[cfg(test)]
-mod tests;
 pub mod words;

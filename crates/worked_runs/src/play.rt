@@ -1,0 +1,163 @@
+// The plain system on one node by its own calls, and the calls that take memory, with memory enough.
+use crate::images::HELLO;
+use crate::in_memory::named;
+use crate::runs::REPLIES;
+use call_table::{End, NamedFiles, PidState};
+use elf_load::load;
+use mosix_shell::report::report;
+use mosix_shell::script::{script_of, words_of};
+use node_event::Order;
+use one_node::Step;
+use one_node::going::Ran;
+use one_node::home::{Applied, Feeds, Home, Outcome, Setup};
+use one_node::play::{PlayFault, play};
+use std::alloc::Global;
+use std::process::Abort;
+use std::test::Fail;
+use user_ctx::Users;
+
+/// The process of hello alone.
+fn hello(alloc: Global) -> Result<Setup, Fail> {
+    let words = words_of(alloc, "hello")?;
+    let mut users = Users::new(alloc);
+    users.push(load(alloc, HELLO.as_slice(), &words)?)?;
+    Ok(Setup {
+        users,
+        feeds: Feeds::new(alloc),
+    })
+}
+
+/// The steps of the whole run of process 1.
+const WHOLE: [Step; 5] = [
+    Step::Launch(0),
+    Step::Steps { pid: 1, k: 5 },
+    Step::Do(1),
+    Step::Steps { pid: 1, k: 2 },
+    Step::Do(1),
+];
+
+/// hello wrote its line and exited.
+fn tells_hello(rt: &impl Abort, outcome: &Outcome) {
+    assert_eq!(rt; outcome.terminal.as_slice(), b"hi\n".as_slice());
+    assert_eq!(rt;
+        outcome.statuses.as_slice(),
+        [(1, PidState::Exit(0))].as_slice()
+    );
+    assert_eq!(rt; outcome.replies.as_slice(), REPLIES.as_slice());
+    assert_eq!(rt; outcome.files.len(), 0);
+}
+
+#[test]
+fn steps_that_are_played(rt: HostRuntime) -> Result<(), Fail> {
+    let setup = hello(rt.alloc())?;
+    let outcome = play(rt.alloc(), &setup, &WHOLE).ok();
+    tells_hello(&rt, &outcome.ok_or("an outcome")?);
+    let outcome = play(rt.alloc(), &setup, &WHOLE[..2]).ok();
+    let outcome = outcome.ok_or("an outcome")?;
+    assert_eq!(rt;
+        outcome.statuses.as_slice(),
+        [(1, PidState::Live)].as_slice()
+    );
+    assert_eq!(rt; (outcome.terminal.len(), outcome.replies.len()), (0, 0));
+    Ok(())
+}
+
+#[test]
+fn steps_that_are_not_enabled(rt: HostRuntime) -> Result<(), Fail> {
+    let setup = hello(rt.alloc())?;
+    let goes = Step::Steps { pid: 1, k: 5 };
+    let table: [(&[Step], u32); 7] = [
+        (&[Step::Launch(0), Step::Do(1)], 1),
+        (&[Step::Do(1), Step::Launch(0)], 0),
+        (&[Step::Launch(1)], 0),
+        (
+            &[Step::Launch(0), Step::Launch(0), goes, goes, Step::Do(2)],
+            3,
+        ),
+        (&[Step::Launch(0), Step::Steps { pid: 1, k: 6 }], 1),
+        (&[Step::Launch(0), goes, Step::Fall(1), Step::Do(1)], 2),
+        (&[Step::Launch(0), goes, Step::Do(2)], 2),
+    ];
+    for (steps, at) in table {
+        let fault = play(rt.alloc(), &setup, steps).err();
+        assert_eq!(rt; fault, Some(PlayFault::NotEnabled { at }));
+    }
+    Ok(())
+}
+
+/// A home makes the whole run of process 1 by its calls.
+fn goes_to_its_end(
+    rt: &impl Abort,
+    alloc: Global,
+    home: &mut Home,
+    setup: &Setup,
+) -> Result<(), Fail> {
+    let launched = Applied::Did {
+        raised: None,
+        reply: None,
+    };
+    assert_eq!(rt; home.apply(alloc, setup, &Step::Launch(0)), Ok(launched));
+    for (steps, number, reply) in [(5, 9, REPLIES[0]), (2, 1, REPLIES[1])] {
+        assert_eq!(rt; home.ended(1), None);
+        assert_eq!(rt; home.go(alloc, 1, 16_384), Ok(Some(Ran::Steps(steps))));
+        assert_eq!(rt; home.go(alloc, 1, 16_384), Ok(Some(Ran::Asks(number))));
+        assert_eq!(rt; home.serve(alloc, 1), Ok(Some(reply)));
+    }
+    assert_eq!(rt; home.ended(1), Some(End::Exit(0)));
+    assert_eq!(rt; home.go(alloc, 1, 1), Ok(None));
+    assert_eq!(rt; home.serve(alloc, 1), Ok(None));
+    tells_hello(rt, &home.outcome(alloc)?);
+    Ok(())
+}
+
+#[test]
+fn a_home_by_its_calls(rt: HostRuntime) -> Result<(), Fail> {
+    let setup = hello(rt.alloc())?;
+    let mut home = Home::new(rt.alloc());
+    goes_to_its_end(&rt, rt.alloc(), &mut home, &setup)
+}
+
+/// One process of each state.
+const STATES: [(u32, PidState); 4] = [
+    (1, PidState::Exit(3)),
+    (2, PidState::Signal(9)),
+    (3, PidState::Blocked(8)),
+    (4, PidState::Live),
+];
+
+/// The pieces of their report.
+const PIECES: [&str; 11] = [
+    "terminal 2\n",
+    "ab",
+    "\n",
+    "process 1 exit 3\n",
+    "process 2 signal 9\n",
+    "process 3 blocked 8\n",
+    "process 4 live\n",
+    "file f 3\n",
+    "xyz",
+    "\n",
+    "done\n",
+];
+
+#[test]
+fn a_script_and_a_report(rt: HostRuntime) -> Result<(), Fail> {
+    let alloc = rt.alloc();
+    let script = script_of(alloc, "hello")?;
+    let line = script.get(0).ok_or("a line")?;
+    match &line.order {
+        Order::Run { words } => {
+            let word = words.get(0).ok_or("a word")?;
+            assert_eq!(rt; (line.line, words.len(), word.as_str()), (1, 1, "hello"));
+        }
+        _ => assert!(rt; false),
+    }
+    let mut files = NamedFiles::new(alloc);
+    files.push(named(alloc, b"f", b"xyz")?)?;
+    let pieces = report(alloc, b"ab", &STATES, files.as_slice())?;
+    assert_eq!(rt; pieces.len(), PIECES.len());
+    for (piece, want) in pieces.as_slice().iter().zip(PIECES.iter()) {
+        assert!(rt; piece.as_slice() == want.as_bytes());
+    }
+    Ok(())
+}

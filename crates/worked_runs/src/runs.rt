@@ -1,0 +1,188 @@
+// The worked runs of one line.
+use crate::images::images;
+use crate::in_memory::{Failing, NEVER, RUN, Told, ended, tells, told};
+use call_table::{Bytes, End, NoMemory, PidState, Reply3};
+use mosix_shell::mosix::Why;
+use mosix_shell::run::{Last, Run};
+use node_event::{Event, Way, What};
+use outside::{Calls, MemImages, MemSink, MemSource};
+use std::alloc::Global;
+use std::process::Abort;
+use std::test::Fail;
+
+/// A run over all images.
+fn run(alloc: Global, words: &[&str], script: &[u8], failing: Failing) -> Result<Told, NoMemory> {
+    told(alloc, words, script, images(alloc)?, failing)
+}
+
+/// The status of a script's run, and its report or line.
+const SCRIPTS: [(&[u8], u8, &[u8]); 10] = [
+    (
+        b"run hello",
+        0,
+        b"terminal 3\nhi\n\nprocess 1 exit 0\ndone\n",
+    ),
+    (
+        b"run note\n",
+        0,
+        b"terminal 3\nhi\n\nprocess 1 exit 0\ndone\n",
+    ),
+    (
+        b"run other\n",
+        0,
+        b"terminal 3\nhi\n\nprocess 1 exit 0\ndone\n",
+    ),
+    (b"run hello\nrun hello\n", 10, b"not built\n"),
+    (b"run cut", 4, b"bad image 1 1\n"),
+    (b"run short", 4, b"bad image 1 8\n"),
+    (b"run none", 4, b"bad image 1 12\n"),
+    (b"run bad", 0, b"terminal 0\n\nprocess 1 signal 4\ndone\n"),
+    (b"run edge", 0, b"terminal 0\n\nprocess 1 signal 11\ndone\n"),
+    (b"run jump1", 0, b"terminal 0\n\nprocess 1 exit 5\ndone\n"),
+];
+
+#[test]
+fn scripts(rt: HostRuntime) -> Result<(), Fail> {
+    for (script, status, output) in SCRIPTS {
+        let told = run(rt.alloc(), &RUN, script, NEVER)?;
+        tells(&rt, &told, status, output);
+    }
+    let told = run(rt.alloc(), &RUN, b"run jump2\n", NEVER)?;
+    tells(&rt, &told, 0, b"terminal 0\n\nprocess 1 signal 11\ndone\n");
+    Ok(())
+}
+
+#[test]
+fn words(rt: HostRuntime) -> Result<(), Fail> {
+    let table: [&[&str]; 6] = [
+        &[],
+        &["--nodes", "9", "run"],
+        &["--nodes", "1"],
+        &["asm", "asm"],
+        &["--nodes", "1", "asm"],
+        &["assemble"],
+    ];
+    for words in table {
+        let told = run(rt.alloc(), words, b"run hello\n", NEVER)?;
+        tells(&rt, &told, 2, b"bad words\n");
+    }
+    Ok(())
+}
+
+#[test]
+fn failing_outside(rt: HostRuntime) -> Result<(), Fail> {
+    let told = run(rt.alloc(), &RUN, b"run hello", (0, 2))?;
+    tells(&rt, &told, 6, b"terminal 3\n");
+    assert_eq!(rt; told.why, Why::WriteFault);
+    let told = run(rt.alloc(), &RUN, b"run hello", (1, 0))?;
+    tells(&rt, &told, 5, b"read fault\n");
+    assert_eq!(rt; told.why, Why::ReadFault);
+    Ok(())
+}
+
+/// What hello's two calls answer.
+pub const REPLIES: [Reply3; 2] = [
+    Reply3 {
+        pid: 1,
+        number: 9,
+        value: 3,
+    },
+    Reply3 {
+        pid: 1,
+        number: 1,
+        value: 0,
+    },
+];
+
+fn at(stamp: u64, what: What) -> Event {
+    Event {
+        stamp,
+        node: 0,
+        what,
+    }
+}
+
+/// The events of hello's run, from the first on.
+fn events_of_hello() -> [Event; 9] {
+    let launch = What::Command {
+        line: 1,
+        launched: Some(1),
+        unsent: None,
+        poked: None,
+    };
+    [
+        at(1, launch),
+        at(2, What::Steps { pid: 1, k: 5 }),
+        at(3, What::Sent { pid: 1, number: 9 }),
+        at(4, served(9, 3, None)),
+        at(5, got(false)),
+        at(6, What::Steps { pid: 1, k: 2 }),
+        at(7, What::Sent { pid: 1, number: 1 }),
+        at(8, served(1, 0, Some(End::Exit(0)))),
+        at(9, got(true)),
+    ]
+}
+
+fn served(number: u32, value: i32, end: Option<End>) -> What {
+    What::Served {
+        pid: 1,
+        way: Way::Did,
+        number: Some(number),
+        value: Some(value),
+        taken: None,
+        end,
+        more: false,
+        poked: None,
+        poked_too: None,
+    }
+}
+
+fn got(ended: bool) -> What {
+    What::Got {
+        pid: 1,
+        child: None,
+        ended,
+        kept: None,
+        to: None,
+    }
+}
+
+/// The run is that of hello.
+fn is_hello(rt: &impl Abort, run: &Run) {
+    assert_eq!(rt; run.last, Last::Done);
+    assert_eq!(rt; run.events.as_slice(), events_of_hello().as_slice());
+    assert_eq!(rt;
+        run.statuses.as_slice(),
+        [(1, PidState::Exit(0))].as_slice()
+    );
+    assert_eq!(rt; run.terminal.as_slice(), b"hi\n".as_slice());
+    assert_eq!(rt; run.replies.as_slice(), REPLIES.as_slice());
+    assert_eq!(rt; run.files.len(), 0);
+}
+
+/// Runs hello, and looks at its run.
+fn runs_hello(
+    rt: &impl Abort,
+    alloc: Global,
+    source: &mut MemSource,
+    images: &mut MemImages,
+    sink: &mut MemSink,
+) -> Result<(), NoMemory> {
+    let ended = ended(alloc, &RUN, source, images, sink)?;
+    match &ended.run {
+        Some(run) => is_hello(rt, run),
+        None => assert!(rt; false),
+    }
+    Ok(())
+}
+
+#[test]
+fn hello_makes_nine_events(rt: HostRuntime) -> Result<(), Fail> {
+    let alloc = rt.alloc();
+    let mut images = MemImages::new(images(alloc)?, Calls::new(alloc));
+    let script = Bytes::from_slice(alloc, b"run hello\n")?;
+    let mut source = MemSource::new(script, Calls::new(alloc));
+    let mut sink = MemSink::new(alloc, Calls::new(alloc), 4096)?;
+    runs_hello(&rt, alloc, &mut source, &mut images, &mut sink)?;
+    Ok(())
+}
