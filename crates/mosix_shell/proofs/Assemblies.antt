@@ -10,6 +10,7 @@ use Rattle.rv_asm.specs.Refusals.{IsRefusal}
 use Rattle.rv_asm.specs.declared.fault.Fault.{Fault}
 use Rattle.rv_asm.specs.declared.fault.FaultKind.TheVariants.{TooLong}
 use Rattle.rv_asm.specs.declared.fault.AsmError.TheVariants.{Source}
+use Rattle.asm_laws.proofs.Loads.{text_loads}
 use Rattle.mosix_shell.specs.Script.{IsReadTo}
 use Rattle.mosix_shell.specs.Top.{WritesLine, text_of}
 use Rattle.mosix_shell.specs.Assembling.{IsReadPast, IsTextOf, IsMadeOf, IsFaultOf, IsMadeFrom, WritesFile, IsAssembly}
@@ -52,33 +53,33 @@ made_nothing (Some left) why h = record { text = left; text_is = refl; made_is =
 -- ---- what is written
 
 -- an answer that has no run writes its line
-fault_writes : (outcome : Result (List ℕ) Fault) (old new : Option (List ℕ)) (why : Why) → IsFaultOf outcome why → WritesLine old new (text_of why) → WritesFile outcome old new why
-fault_writes outcome old new (BadSource line kind) f w = (f, w)
-fault_writes outcome old new ReadFault f w = w
-fault_writes outcome old new NoMemory f w = w
-fault_writes outcome old new Done f w = absurd f
-fault_writes outcome old new BadWords f w = absurd f
-fault_writes outcome old new (BadImage line kind) f w = absurd f
-fault_writes outcome old new WriteFault f w = absurd f
-fault_writes outcome old new NotBuilt f w = absurd f
+fault_writes : (text : List ℕ) (old new : Option (List ℕ)) (why : Why) → IsFaultOf (assembled text) why → WritesLine old new (text_of why) → WritesFile text old new why
+fault_writes text old new (BadSource line kind) f w = (f, w)
+fault_writes text old new ReadFault f w = w
+fault_writes text old new NoMemory f w = w
+fault_writes text old new Done f w = absurd f
+fault_writes text old new BadWords f w = absurd f
+fault_writes text old new (BadImage line kind) f w = absurd f
+fault_writes text old new WriteFault f w = absurd f
+fault_writes text old new NotBuilt f w = absurd f
 
-refused_or : (outcome : Result (List ℕ) Fault) (old new : Option (List ℕ)) (why told : Why) → IsFaultOf outcome why → ((told ≡ why) ⊎ (told ≡ NoMemory)) → WritesLine old new (text_of told) → WritesFile outcome old new told
-refused_or outcome old new why told f (inl e) w = fault_writes outcome old new told (subst (IsFaultOf outcome) (sym e) f) w
-refused_or outcome old new why told f (inr e) w = subst (WritesFile outcome old new) (sym e) (subst (λ y. WritesLine old new (text_of y)) e w)
+refused_or : (text : List ℕ) (old new : Option (List ℕ)) (why told : Why) → IsFaultOf (assembled text) why → ((told ≡ why) ⊎ (told ≡ NoMemory)) → WritesLine old new (text_of told) → WritesFile text old new told
+refused_or text old new why told f (inl e) w = fault_writes text old new told (subst (IsFaultOf (assembled text)) (sym e) f) w
+refused_or text old new why told f (inr e) w = subst (WritesFile text old new) (sym e) (subst (λ y. WritesLine old new (text_of y)) e w)
 
 pub refused : (left old new : Option (List ℕ)) (why told : Why) → IsMadeFrom left (Err why) → ((told ≡ why) ⊎ (told ≡ NoMemory)) → WritesLine old new (text_of told) → IsAssembly left old new told
-refused left old new why told m e w = record { text = m.text; text_is = m.text_is; written = refused_or (assembled m.text) old new why told m.made_is e w }
+refused left old new why told m e w = record { text = m.text; text_is = m.text_is; written = refused_or m.text old new why told m.made_is e w }
 
 pub wrote : (left old new : Option (List ℕ)) (file given : List ℕ) (u : Unit {0}) (why : Why) → IsMadeFrom left (Ok file) → given ≡ file → Appends old new given (Ok u) → why ≡ Done → IsAssembly left old new why
 wrote left old new file given u why m same a e = record {
   text = m.text;
   text_is = m.text_is;
-  written = subst (WritesFile (assembled m.text) old new) (sym e) (file, m.made_is, subst (λ x. Appends old new x (Ok u)) same a);
+  written = subst (WritesFile m.text old new) (sym e) (file, m.made_is, text_loads m.text file m.made_is, subst (λ x. Appends old new x (Ok u)) same a);
 }
 
 pub wrote_front : (left old new : Option (List ℕ)) (file given : List ℕ) (f : Failed) (why : Why) → IsMadeFrom left (Ok file) → given ≡ file → Appends old new given (Err f) → why ≡ WriteFault → IsAssembly left old new why
 wrote_front left old new file given f why m same a e = record {
   text = m.text;
   text_is = m.text_is;
-  written = subst (WritesFile (assembled m.text) old new) (sym e) (file, m.made_is, (Err f, subst (λ x. Appends old new x (Err f)) same a));
+  written = subst (WritesFile m.text old new) (sym e) (file, m.made_is, text_loads m.text file m.made_is, (Err f, subst (λ x. Appends old new x (Err f)) same a));
 }

@@ -2,6 +2,7 @@
 use Rattle.std.specs.Prelude.{◌≡◌, ◌≤◌, ◌<◌, ℕ, List, length, Option, Some, None, Result, Ok, Err}
 use Rattle.rv_asm.specs.Assembly.{assembled}
 use Rattle.rv_asm.specs.Refusals.{IsRefusal}
+use Rattle.asm_laws.specs.Loaded.{LoadsAs}
 use Rattle.rv_asm.specs.declared.fault.Fault.{Fault}
 use Rattle.rv_asm.specs.declared.fault.AsmError.TheVariants.{Source}
 use Rattle.mosix_shell.specs.Top.{text_of, WritesAll, WritesLine}
@@ -40,19 +41,19 @@ pub record IsMadeFrom (left : Option (List ℕ)) (made : Result (List ℕ) Why) 
   pub text_is : IsTextOf left text
   pub made_is : IsMadeOf (assembled text) made
 
--- all of the file at Done, a front of it where the sink failed, else the answer's line or a front of it
-abbrev pub WritesFile : Result (List ℕ) Fault → Option (List ℕ) → Option (List ℕ) → Why → Type 0
-WritesFile outcome old new Done = (file : List ℕ) × (outcome ≡ Ok file) × WritesAll old new file
-WritesFile outcome old new WriteFault = (file : List ℕ) × (outcome ≡ Ok file) × WritesLine old new file
-WritesFile outcome old new (BadSource line kind) = IsRefusal outcome (Source line kind) × WritesLine old new (text_of (BadSource line kind))
-WritesFile outcome old new ReadFault = WritesLine old new (text_of ReadFault)
-WritesFile outcome old new NoMemory = WritesLine old new (text_of NoMemory)
-WritesFile outcome old new BadWords = ⊥
-WritesFile outcome old new (BadImage line kind) = ⊥
-WritesFile outcome old new NotBuilt = ⊥
+-- all of the file at Done, a front of it where the sink failed, else the answer's line or a front of it. The file loads to the state of its text
+abbrev pub WritesFile : List ℕ → Option (List ℕ) → Option (List ℕ) → Why → Type 0
+WritesFile text old new Done = (file : List ℕ) × (assembled text ≡ Ok file) × LoadsAs text file × WritesAll old new file
+WritesFile text old new WriteFault = (file : List ℕ) × (assembled text ≡ Ok file) × LoadsAs text file × WritesLine old new file
+WritesFile text old new (BadSource line kind) = IsRefusal (assembled text) (Source line kind) × WritesLine old new (text_of (BadSource line kind))
+WritesFile text old new ReadFault = WritesLine old new (text_of ReadFault)
+WritesFile text old new NoMemory = WritesLine old new (text_of NoMemory)
+WritesFile text old new BadWords = ⊥
+WritesFile text old new (BadImage line kind) = ⊥
+WritesFile text old new NotBuilt = ⊥
 
 -- the answer of a source's text: by `assembled`, where the source is told
 pub record IsAssembly (left old new : Option (List ℕ)) (why : Why) : Type 0 where
   pub text : List ℕ
   pub text_is : IsTextOf left text
-  pub written : WritesFile (assembled text) old new why
+  pub written : WritesFile text old new why
