@@ -63,7 +63,7 @@ fn sink_of(alloc: Global, failing: u64) -> Result<MemSink, NoMemory> {
 }
 
 /// One run of these words, to its answer and its run.
-pub fn ended(
+pub fn run_to_end(
     alloc: Global,
     words: &[&str],
     source: &mut MemSource,
@@ -82,12 +82,12 @@ fn answer(
     images: &mut MemImages,
     sink: &mut MemSink,
 ) -> Result<(u8, Why), NoMemory> {
-    let ended = ended(alloc, words, source, images, sink)?;
+    let ended = run_to_end(alloc, words, source, images, sink)?;
     Ok((ended.status, ended.why))
 }
 
 /// One run of these words over this input and these files.
-pub fn told(
+pub fn run_in_memory(
     alloc: Global,
     words: &[&str],
     input: &[u8],
@@ -107,14 +107,14 @@ pub fn told(
 
 /// One text assembled.
 pub fn assembled(alloc: Global, text: &[u8], failing: Failing) -> Result<Told, NoMemory> {
-    told(alloc, &["asm"], text, Names::new(alloc), failing)
+    run_in_memory(alloc, &["asm"], text, Names::new(alloc), failing)
 }
 
 /// The run of a file alone.
 fn run_file(alloc: Global, file: &[u8]) -> Result<Told, NoMemory> {
     let mut files = Names::new(alloc);
     files.push(named(alloc, b"program", file)?)?;
-    told(alloc, &RUN, b"run program\n", files, NEVER)
+    run_in_memory(alloc, &RUN, b"run program\n", files, NEVER)
 }
 
 /// The run of a text's program.

@@ -1,6 +1,6 @@
 // The worked runs of one line.
 use crate::images::images;
-use crate::in_memory::{Failing, NEVER, RUN, Told, ended, tells, told};
+use crate::in_memory::{Failing, NEVER, RUN, Told, run_in_memory, run_to_end, tells};
 use call_table::{Bytes, End, NoMemory, PidState, Reply3};
 use mosix_shell::mosix::Why;
 use mosix_shell::run::{Last, Run};
@@ -12,7 +12,7 @@ use std::test::Fail;
 
 /// A run over all images.
 fn run(alloc: Global, words: &[&str], script: &[u8], failing: Failing) -> Result<Told, NoMemory> {
-    told(alloc, words, script, images(alloc)?, failing)
+    run_in_memory(alloc, words, script, images(alloc)?, failing)
 }
 
 /// The status of a script's run, and its report or line.
@@ -168,7 +168,7 @@ fn runs_hello(
     images: &mut MemImages,
     sink: &mut MemSink,
 ) -> Result<(), NoMemory> {
-    let ended = ended(alloc, &RUN, source, images, sink)?;
+    let ended = run_to_end(alloc, &RUN, source, images, sink)?;
     match &ended.run {
         Some(run) => is_hello(rt, run),
         None => assert!(rt; false),
