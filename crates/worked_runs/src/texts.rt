@@ -120,6 +120,69 @@ fn texts_that_run(rt: HostRuntime) -> Result<(), Fail> {
     Ok(())
 }
 
+/// The programs of calls that are to come, and how many bytes each has in its file and in memory.
+const TO_COME: [(&[u8], u32, u32); 9] = [
+    (b"l: j l\n", 4, 4),
+    (
+        b"li a0, 0\nla a1, b\nli a2, 2\nsys 8\nli a0, 1\nla a1, r\nli a2, 1\nsys 9\nli a0, 0\nsys 1\nr: .ascii \"r\"\nb: .space 2\n",
+        95,
+        95,
+    ),
+    (
+        b"li a0, 0\nla a1, b\nli a2, 2\nsys 8\nli a0, 1\nla a1, r\nli a2, 1\nsys 9\nl: j l\nr: .ascii \"r\"\nb: .space 2\n",
+        79,
+        79,
+    ),
+    (
+        b"li a0, 10\nla a1, h\nla a2, k\nsys 15\nli a0, 0\nla a1, b\nli a2, 2\nsys 8\nsub s0, x0, a0\nli a0, 0\nla a1, b\nli a2, 2\nsys 8\nmv a2, a0\nli a0, 1\nla a1, b\nsys 9\nmv a0, s0\nsys 1\nh: li a0, 1\nla a1, c\nli a2, 1\nsys 9\nret\nk: sys 16\nc: .ascii \"h\"\nb: .space 2\n",
+        215,
+        215,
+    ),
+    (
+        b"li a0, 10\nla a1, h\nla a2, h\nsys 15\nsys 2\nli a1, 10\nli sp, 0x2000\nsys 14\nh: li a0, 0\nsys 1\n",
+        96,
+        96,
+    ),
+    (
+        b"li a0, 0\nla a1, b\nli a2, 2\nsys 8\nsys 4\nbeq a0, x0, c\nla a0, s\nsys 5\nla a1, s\nlw a0, 0(a1)\nsrli a0, a0, 8\nsys 1\nc: li a0, 0\nla a1, b\nli a2, 2\nsys 8\nli a0, 7\nsys 1\ns: .word 0\nb: .space 2\n",
+        162,
+        162,
+    ),
+    (
+        b"li s0, 0\nm: sys 4\nbeq a0, x0, c\nblt a0, x0, f\naddi s0, s0, 1\nj m\nf: li a0, 0\nsys 5\nsys 4\nbeq a0, x0, c\naddi s0, s0, 1\nmv a0, s0\nsys 1\nc: li a0, 0\nsys 1\n",
+        112,
+        112,
+    ),
+    (
+        b"la a0, p\nsys 11\nsys 4\nla a1, p\nlw a0, 0(a1)\nla a1, b\nli a2, 1\nsys 8\nli a0, 0\nsys 1\np: .space 8\nb: .space 4\n",
+        104,
+        104,
+    ),
+    (
+        b"la a0, p\nsys 11\nla a1, p\nlw s0, 4(a1)\nmv a0, s0\nla a1, b\nli a2, 4095\nsys 9\nmv a0, s0\nla a1, b\nli a2, 10\nsys 9\naddi a0, a0, 48\nla a1, c\nsb a0, 0(a1)\nli a0, 1\nli a2, 1\nsys 9\nmv a0, s0\nla a1, b\nli a2, 1\nsys 9\nli a0, 0\nsys 1\np: .space 8\nc: .space 4\nb: .space 1\n.bss 4095\n",
+        205,
+        4300,
+    ),
+];
+
+/// The file tells these sizes, and has so many bytes.
+fn has_sizes(rt: &impl Abort, told: &Told, size: u32, memory: u32) {
+    assert_eq!(rt; told.status, 0);
+    let file = told.output.as_slice();
+    assert_eq!(rt; file.len(), 84 + size as usize);
+    assert_eq!(rt; &file[68..72], size.to_le_bytes().as_slice());
+    assert_eq!(rt; &file[72..76], memory.to_le_bytes().as_slice());
+}
+
+#[test]
+fn programs_to_come(rt: HostRuntime) -> Result<(), Fail> {
+    for (text, size, memory) in TO_COME {
+        let told = assembled(rt.alloc(), text, NEVER)?;
+        has_sizes(&rt, &told, size, memory);
+    }
+    Ok(())
+}
+
 /// A text whose program is empty: its file is refused, since nothing can be executed at its entry.
 #[test]
 fn a_text_without_a_program(rt: HostRuntime) -> Result<(), Fail> {
