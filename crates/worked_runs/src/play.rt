@@ -161,3 +161,22 @@ fn a_script_and_a_report(rt: HostRuntime) -> Result<(), Fail> {
     }
     Ok(())
 }
+
+/// The lengths of the pieces of a report.
+fn lengths(rt: &impl Abort, alloc: Global, terminal: &[u8], wanted: &[usize]) -> Result<(), Fail> {
+    let pieces = report(alloc, terminal, &[], &[])?;
+    assert_eq!(rt; pieces.len(), wanted.len());
+    for (piece, want) in pieces.as_slice().iter().zip(wanted.iter()) {
+        assert_eq!(rt; piece.len(), *want);
+    }
+    Ok(())
+}
+
+/// A piece has 65,536 bytes at most, and nothing is a piece of no bytes.
+#[test]
+fn pieces_of_a_report(rt: HostRuntime) -> Result<(), Fail> {
+    let alloc = rt.alloc();
+    lengths(&rt, alloc, b"", &[11, 1, 5])?;
+    let long = vec![in alloc; b'z'; 65_537]?;
+    lengths(&rt, alloc, long.as_slice(), &[15, 65_536, 1, 1, 5])
+}
