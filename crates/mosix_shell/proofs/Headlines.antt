@@ -14,8 +14,8 @@ use Rattle.mosix_shell.specs.Script.{script_of}
 use Rattle.mosix_shell.specs.Turns.{Moment, Story, story_of, first_event, first_moment, quantum_steps, later_events}
 use Rattle.mosix_shell.specs.Running.{IsRunOfStory, Finishes}
 use Rattle.mosix_shell.specs.Headline.{Replays, IsLawful}
+use Rattle.mosix_shell.specs.OnePlace.{OnePlace}
 use Rattle.mosix_shell.specs.declared.run.Run.{Run}
-use Rattle.mosix_shell.proofs.Telling.{Told}
 use Rattle.mosix_shell.proofs.Stories.{Kept, IsTold, IsFinished, story_told, start_kept, finished}
 use Rattle.mosix_shell.proofs.Replaying.{replay}
 
@@ -35,13 +35,14 @@ no_phase : (b : Bool) (phase : Phase) → phase ≡ Goes → cond b phase Goes �
 no_phase true phase h = h
 no_phase false phase h = refl
 
-lawful_by : (setup : List UserState) (script : List ScriptLine) (run : Run) (s : Story) → s.history ≡ reverse run.events → Told quantum_steps setup script s.history s.last → s.last.phase ≡ Goes → IsLawful quantum_steps setup script run
-lawful_by setup script run s e t goes = record {
-  stamped = subst AreStamped e t.stamped;
-  scripted = subst (ScriptLaw setup script) e t.scripted;
-  all_lines = ap command_count (sym e) ∙ t.commands;
-  once = subst (OnceLaw quantum_steps setup script) e t.once;
-  given_back = subst AreGivenBack e (λ p. t.phases p ∙ no_phase (nat_eq 1 p) s.last.phase goes);
+lawful_by : (setup : List UserState) (script : List ScriptLine) (run : Run) (s : Story) → s.history ≡ reverse run.events → Kept quantum_steps setup script s.history s.last → s.last.phase ≡ Goes → IsLawful quantum_steps setup script run
+lawful_by setup script run s e k goes = record {
+  stamped = subst AreStamped e k.told.stamped;
+  scripted = subst (ScriptLaw setup script) e k.told.scripted;
+  all_lines = ap command_count (sym e) ∙ k.told.commands;
+  once = subst (OnceLaw quantum_steps setup script) e k.told.once;
+  given_back = subst AreGivenBack e (λ p. k.told.phases p ∙ no_phase (nat_eq 1 p) s.last.phase goes);
+  one_place = subst (OnePlace setup script) e k.one_place;
 }
 
 some_quantum : 1 ≤ quantum_steps
@@ -59,4 +60,4 @@ replays run u name r =
 pub lawful : (run : Run) (u : UserState) (name : List ℕ) → IsRunOfStory run (story_of u) → IsLawful quantum_steps (u ∷ []) (script_of name) run
 lawful run u name r =
     let t = story_is_told u name in
-    lawful_by (u ∷ []) (script_of name) run (story_of u) (sym r.history) t.kept.told (finished quantum_steps (u ∷ []) (script_of name) (story_of u) t r.ended).goes
+    lawful_by (u ∷ []) (script_of name) run (story_of u) (sym r.history) t.kept (finished quantum_steps (u ∷ []) (script_of name) (story_of u) t r.ended).goes

@@ -3,6 +3,7 @@ pub mod Ascii
 pub mod Walks
 pub mod Telling
 pub mod Kernels
+pub mod Placing
 pub mod Stories
 pub mod Replaying
 pub mod Headlines

@@ -12,14 +12,16 @@ use Rattle.node_event.specs.declared.script.ScriptLine.{ScriptLine}
 use Rattle.model.specs.User.{UserState}
 use Rattle.model.specs.Advance.{Walk, quantum_of, request_of, asked_number}
 use Rattle.model.specs.Machine.{MachineState, live_user, ended_of, with_user, if_live, have_ended}
-use Rattle.model.specs.OnceLaw.{phase_of, number_asked, way_for}
+use Rattle.model.specs.OnceLaw.{phase_of, number_asked, way_for, value_gained}
 use Rattle.model.specs.declared.phase.Phase.{Phase}
 use Rattle.model.specs.declared.phase.Phase.TheVariants.{Goes, Waits, IsServed}
 use Rattle.mosix_shell.specs.Turns.{Moment, Turned, Makes, IsOver, IsUnbuilt, turn_of, turn_in, go_turn, going_turn, sent_turn, steps_turn, serve_turn, served_turn, served_what, served_machine, got_turn, event_after, first_event, first_moment, Story, story, told_by, is_over}
 use Rattle.mosix_shell.specs.Script.{script_of}
 use Rattle.mosix_shell.proofs.Walks.{IsWalk, quantum_is}
 use Rattle.mosix_shell.proofs.Telling.{Told, told_steps, told_sent, told_served, told_got}
+use Rattle.mosix_shell.specs.OnePlace.{OnePlace}
 use Rattle.mosix_shell.proofs.Kernels.{served_keeps}
+use Rattle.mosix_shell.proofs.Placing.{IsHome, placed_in, home_steps, home_sent, home_served, home_got, none_placed, home_start}
 
 -- what was sent is what the process asks
 abbrev IsAsked : Phase → MachineState → Type 0
@@ -36,6 +38,21 @@ pub record Kept (q : ℕ) (setup : List UserState) (script : List ScriptLine) (e
   pub single : length now.machine.kernel.ends ≡ 1
   pub context : length now.machine.users ≡ 1
   pub asked : IsAsked now.phase now.machine
+  pub home : IsHome es now
+  pub one_place : OnePlace setup script es
+
+-- one event more keeps that each live process is in one place
+kept_by : (q : ℕ) (setup : List UserState) (script : List ScriptLine) (es : List Event) (what : What) (now next : Moment) → Kept q setup script es now
+    → Told q setup script (event_after es what ∷ es) next → length next.machine.kernel.ends ≡ 1 → length next.machine.users ≡ 1 → IsAsked next.phase next.machine → IsHome (event_after es what ∷ es) next
+    → Kept q setup script (event_after es what ∷ es) next
+kept_by q setup script es what now next k told single context asked home = record {
+  told = told;
+  single = single;
+  context = context;
+  asked = asked;
+  home = home;
+  one_place = (placed_in setup script (event_after es what ∷ es) next told.plays single home, k.one_place);
+}
 
 -- a turn that makes an event keeps it
 abbrev TurnKeeps : ℕ → List UserState → List ScriptLine → List Event → Turned → Type 0
@@ -43,16 +60,25 @@ TurnKeeps q setup script es (Makes what next) = Kept q setup script (event_after
 TurnKeeps q setup script es IsOver = Unit {0}
 TurnKeeps q setup script es IsUnbuilt = Unit {0}
 
+asked_home : (es : List Event) (m : MachineState) (number : ℕ) (o : Option UserState) → live_user m 1 ≡ o → asked_number (option_and_then request_of o) ≡ Some number
+    → IsHome es (record { machine = m; phase = Goes }) → IsHome (event_after es (Sent 1 number) ∷ es) (record { machine = m; phase = Waits number })
+asked_home es m number None live e home = absurd (none-some number e)
+asked_home es m number (Some u) live e home = home_sent es m u number live home
+
 sent_keeps : (q : ℕ) (setup : List UserState) (script : List ScriptLine) (es : List Event) (m : MachineState) (asked : Option ℕ) → number_asked m 1 ≡ asked
     → Kept q setup script es (record { machine = m; phase = Goes }) → TurnKeeps q setup script es (sent_turn m asked)
 sent_keeps q setup script es m None e k = tt
-sent_keeps q setup script es m (Some number) e k = record { told = told_sent q setup script es m number e k.told; single = k.single; context = k.context; asked = e }
+sent_keeps q setup script es m (Some number) e k =
+    kept_by q setup script es (Sent 1 number) (record { machine = m; phase = Goes }) (record { machine = m; phase = Waits number }) k
+    (told_sent q setup script es m number e k.told) k.single k.context e (asked_home es m number (live_user m 1) refl e k.home)
 
 going_keeps : (q : ℕ) (setup : List UserState) (script : List ScriptLine) (es : List Event) (m : MachineState) (u : UserState) (w : Walk) (b : Bool)
     → live_user m 1 ≡ Some u → IsWalk q u w → (w.went == 0) ≡ b
     → Kept q setup script es (record { machine = m; phase = Goes }) → TurnKeeps q setup script es (cond b (sent_turn m (asked_number (request_of u))) (steps_turn m w))
 going_keeps q setup script es m u w true live is e k = sent_keeps q setup script es m (asked_number (request_of u)) (ap (λ o. asked_number (option_and_then request_of o)) live) k
-going_keeps q setup script es m u w false live is e k = record { told = told_steps q setup script es m u w live is e k.told; single = k.single; context = length-set m.users 0 w.user ∙ k.context; asked = tt }
+going_keeps q setup script es m u w false live is e k =
+    kept_by q setup script es (Steps 1 w.went) (record { machine = m; phase = Goes }) (record { machine = with_user m 1 w.user; phase = Goes }) k
+    (told_steps q setup script es m u w live is e k.told) k.single (length-set m.users 0 w.user ∙ k.context) tt (home_steps es m (with_user m 1 w.user) w.went refl k.home)
 
 go_keeps : (q : ℕ) (setup : List UserState) (script : List ScriptLine) (es : List Event) (m : MachineState) (o : Option UserState) → 1 ≤ q → live_user m 1 ≡ o
     → Kept q setup script es (record { machine = m; phase = Goes }) → TurnKeeps q setup script es (go_turn q m o)
@@ -62,18 +88,21 @@ go_keeps q setup script es m (Some u) low live k = going_keeps q setup script es
 serve_keeps : (q : ℕ) (setup : List UserState) (script : List ScriptLine) (es : List Event) (m : MachineState) (number : ℕ) (o : Option MachineState) → served_machine (way_for number) m ≡ o
     → Kept q setup script es (record { machine = m; phase = Waits number }) → TurnKeeps q setup script es (served_turn number m o)
 serve_keeps q setup script es m number None e k = tt
-serve_keeps q setup script es m number (Some n) e k = record {
-  told = told_served q setup script es m n number k.asked e k.told;
-  single = (served_keeps (way_for number) m n e).0 ∙ k.single;
-  context = (served_keeps (way_for number) m n e).1 ∙ k.context;
-  asked = tt;
-}
+serve_keeps q setup script es m number (Some n) e k =
+    kept_by q setup script es (served_what number m n) (record { machine = m; phase = Waits number }) (record { machine = n; phase = IsServed }) k
+    (told_served q setup script es m n number k.asked e k.told)
+    ((served_keeps (way_for number) m n e).0 ∙ k.single)
+    ((served_keeps (way_for number) m n e).1 ∙ k.context)
+    tt
+    (home_served es m n number (way_for number) (value_gained m n) (ended_of n 1) k.home)
 
 turn_keeps : (q : ℕ) (setup : List UserState) (script : List ScriptLine) (es : List Event) (m : MachineState) (phase : Phase) → 1 ≤ q
     → Kept q setup script es (record { machine = m; phase = phase }) → TurnKeeps q setup script es (turn_in phase q m)
 turn_keeps q setup script es m Goes low k = go_keeps q setup script es m (live_user m 1) low refl k
 turn_keeps q setup script es m (Waits number) low k = serve_keeps q setup script es m number (served_machine (way_for number) m) refl k
-turn_keeps q setup script es m IsServed low k = record { told = told_got q setup script es m k.told; single = k.single; context = k.context; asked = tt }
+turn_keeps q setup script es m IsServed low k =
+    kept_by q setup script es (Got 1 None (is_some (ended_of m 1)) None None) (record { machine = m; phase = IsServed }) (record { machine = m; phase = Goes }) k
+    (told_got q setup script es m k.told) k.single k.context tt (home_got es m k.home)
 
 -- ---- a whole run
 
@@ -112,6 +141,8 @@ start_kept q u name = record {
   single = refl;
   context = refl;
   asked = tt;
+  home = home_start u;
+  one_place = (placed_in (u ∷ []) (script_of name) (first_event ∷ []) (first_moment u) refl refl (home_start u), none_placed);
 }
 
 -- ---- the end

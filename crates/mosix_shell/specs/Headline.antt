@@ -9,6 +9,7 @@ use Rattle.model.specs.History.{AreStamped}
 use Rattle.model.specs.ScriptLaw.{ScriptLaw, command_count}
 use Rattle.model.specs.OnceLaw.{OnceLaw, AreGivenBack}
 use Rattle.mosix_shell.specs.Script.{script_of}
+use Rattle.mosix_shell.specs.OnePlace.{OnePlace}
 use Rattle.mosix_shell.specs.declared.run.Run.{Run}
 use Rattle.mosix_shell.specs.declared.run.Last.TheVariants as last
 
@@ -32,3 +33,5 @@ pub record IsLawful (quantum : ℕ) (setup : List UserState) (script : List Scri
   pub all_lines : command_count (reverse run.events) ≡ 1
   pub once : OnceLaw quantum setup script (reverse run.events)
   pub given_back : AreGivenBack (reverse run.events)
+  -- after each event each live process is in one place
+  pub one_place : OnePlace setup script (reverse run.events)
