@@ -10,3 +10,5 @@ pub mod Asking
 pub mod Rights
 pub mod Known
 pub mod Moves
+pub mod Stored
+pub mod Decodings

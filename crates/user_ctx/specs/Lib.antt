@@ -1,3 +1,4 @@
 pub mod Stopping
 pub mod Heap
 pub mod Calling
+pub mod Decoded

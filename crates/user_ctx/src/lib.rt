@@ -1,10 +1,12 @@
 // A user process: its registers, its pages, and its steps.
 #![tactic(auto)]
 
+mod decoded;
 mod effect;
 mod frame;
 mod heap;
 mod step;
+mod steps;
 mod stop;
 #[cfg(test)]
 mod tests;

@@ -1,9 +1,11 @@
 // One instruction, on pc, registers and pages.
-ghost use Rattle.std.specs.Prelude.{◌≡◌, ◌≢◌, ◌≤◌, Some, ◌∷◌, ◌<◌, drop, MatchResult, Ok, Err, OnErr};
+ghost use Rattle.std.specs.Prelude.{ℕ, List, ◌≡◌, ◌∷◌, drop, MatchResult, IsSome, Ok, Err, OnErr};
 ghost use Rattle.model.specs.Words.{sign_filled};
-ghost use Rattle.model.specs.Instruction.{next_effect, load_as, store_as, one_instruction, ran};
+ghost use Rattle.model.specs.Instruction.{next_effect, load_as, store_as, one_instruction};
 ghost use Rattle.user_ctx.specs.Stopping.{core, ran_of, OrStays};
+ghost use Rattle.user_ctx.specs.Decoded.{IsKnown, known_at};
 
+use crate::decoded::DecodedWords;
 use crate::effect::{effect, set_register};
 use crate::stop::Outcome;
 use model::effect::{Effect, Form, Width};
@@ -124,27 +126,89 @@ pub fn step(pc: &mut u32, x: &mut [u32; 32], pages: &mut Pages) -> Outcome
     }
 }
 
-/// Instructions until so many were done or one was not: how many were done, and how the last one came out.
+/// Learns the word at a place, or tells the signal of a fault there.
 #[inline(never)]
-pub fn run(pc: &mut u32, x: &mut [u32; 32], pages: &mut Pages, n: u32) -> (u32, Outcome)
-    requires { x.old ≡ 0 ∷ drop 1 x.old }
-    ensures zero { x.new ≡ 0 ∷ drop 1 x.new }
-    ensures most { result.0 ≤ n }
-    ensures went { ran result.0 (core pc.old x.old pages.old) ≡ Some (core pc.new x.new pages.new) }
-    ensures whole { result.1 ≡ Outcome.Done → result.0 ≡ n }
-    ensures short { result.1 ≢ Outcome.Done → result.0 < n }
-    ensures stop { result.1 ≢ Outcome.Done → one_instruction (core pc.new x.new pages.new) ≡ ran_of result.1 (core pc.new x.new pages.new) }
+#[cold]
+fn learn(pc: u32, pages: &Pages, words: &mut DecodedWords) -> Result<(), u8>
+    requires { IsKnown pages.now words.old.words }
+    ensures is { MatchResult result (λ _. IsSome (known_at words.new.words pc)) (λ signal. (x : List ℕ) → next_effect pc x pages.now ≡ Effect.Raises signal) }
+    ensures known { IsKnown pages.now words.new.words }
 {
-    let mut at = *pc;
-    for i in 0..n {
-        match step(&mut at, x, pages) {
-            Outcome::Done => {}
-            outcome => {
-                *pc = at;
-                return (i, outcome);
-            }
+    if pc % 4 != 0 {
+        return Err(11);
+    }
+    let word = match pages.load_4(pc, 1) {
+        Ok(word) => word,
+        Err(_) => return Err(11),
+    };
+    match decode(word) {
+        Some(instr) => {
+            words.learn(pc, &instr);
+            Ok(())
+        }
+        None => Err(4),
+    }
+}
+
+/// The effect of the next instruction, by its word where that is known.
+#[inline(always)]
+#[tactic(auto, using(crate::proofs::Decodings::found))]
+fn next_known(pc: u32, x: &[u32; 32], pages: &Pages, words: &mut DecodedWords) -> Effect
+    requires { IsKnown pages.now words.old.words }
+    ensures is { result ≡ next_effect pc x.now pages.now }
+    ensures known { IsKnown pages.now words.new.words }
+{
+    if pc % 4 != 0 {
+        return Effect::Raises(11);
+    }
+    if !words.knows(pc) {
+        match learn(pc, pages, words) {
+            Ok(()) => {}
+            Err(signal) => return Effect::Raises(signal),
         }
     }
-    *pc = at;
-    (n, Outcome::Done)
+    effect(words.get(pc), pc, x)
+}
+
+/// One instruction, by its word where that is known. Unless it was done nothing changes but what is known.
+#[inline(always)]
+#[tactic(auto, using(crate::proofs::Decodings::stored))]
+pub fn step_known(
+    pc: &mut u32,
+    x: &mut [u32; 32],
+    pages: &mut Pages,
+    words: &mut DecodedWords,
+) -> Outcome
+    requires zero { x.old ≡ 0 ∷ drop 1 x.old }
+    requires known { IsKnown pages.old words.old.words }
+    ensures zero { x.new ≡ 0 ∷ drop 1 x.new }
+    ensures is { one_instruction (core pc.old x.old pages.old) ≡ ran_of result (core pc.new x.new pages.new) }
+    ensures stays { OrStays result (core pc.old x.old pages.old) (core pc.new x.new pages.new) }
+    ensures known { IsKnown pages.new words.new.words }
+{
+    match next_known(*pc, x, pages, words) {
+        Effect::Sets { rd, value, next } => {
+            set_register(x, rd, value);
+            *pc = next;
+            Outcome::Done
+        }
+        Effect::Loads { rd, addr, form } => match load(pages, addr, form) {
+            Ok(value) => {
+                set_register(x, rd, value);
+                *pc = (*pc).wrapping_add(4);
+                Outcome::Done
+            }
+            Err(_) => Outcome::Fault(11),
+        },
+        Effect::Stores { addr, value, width } => match store(pages, addr, value, width) {
+            Ok(()) => {
+                words.forget_bytes(addr);
+                *pc = (*pc).wrapping_add(4);
+                Outcome::Done
+            }
+            Err(_) => Outcome::Fault(11),
+        },
+        Effect::Calls => Outcome::Call,
+        Effect::Raises(signal) => Outcome::Fault(signal),
+    }
 }

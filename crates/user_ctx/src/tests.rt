@@ -109,8 +109,16 @@ const RESULTS: [(u32, u32, u32, u32, u32); 68] = [
     (0xFFFF_F617, 0x0000_0013, 0, 0, 0),
     // a write to x0 is lost
     (0x0055_0013, 0x0000_0013, 7, 0, 0),
-    // fence, with other bits
+    // sll by a register that is 0
+    (0x00B5_1633, 0x0000_0013, 0x8000_0001, 0, 0x8000_0001),
+    // srl by a register that is 0
+    (0x00B5_5633, 0x0000_0013, 0x8000_0001, 0, 0x8000_0001),
+    // srai by 0
+    (0x4005_5613, 0x0000_0013, 0x8000_0000, 0, 0x8000_0000),
+    // fence
     (0x0FF0_000F, 0x0000_0013, 0, 0, 0),
+    // fence, with its free bits
+    (0xFFFF_8F8F, 0x0000_0013, 0, 0, 0),
     // lb
     (0xFFE5_0603, 0x0000_0013, 0x4000, 0, 0xFFFF_FF80),
     // lb of a positive byte
@@ -180,7 +188,7 @@ const RESULTS: [(u32, u32, u32, u32, u32); 68] = [
 ];
 
 /// A word, a0, a1, and the signal of its fault.
-const FAULTS: [(u32, u32, u32, u8); 15] = [
+const FAULTS: [(u32, u32, u32, u8); 18] = [
     // a product
     (0x02C5_8533, 3, 5, 4),
     // a zero word
@@ -211,6 +219,12 @@ const FAULTS: [(u32, u32, u32, u8); 15] = [
     (0x00B5_2023, 0x4FFE, 1, 11),
     // sb to the code
     (0x00B5_0023, 0x1000, 1, 11),
+    // jalr to a page that is only read, at the fetch there
+    (0x0005_0667, 0x6000, 0, 11),
+    // lw to x0, of an unmapped page
+    (0x0005_2003, 0x5000, 0, 11),
+    // sh that ends in an unmapped page
+    (0x00B5_1023, 0x4FFF, 1, 11),
 ];
 
 /// The break goes up, down and up again, with a word stored in between and loaded at the end.
@@ -321,6 +335,59 @@ const LOCALS: [u32; 12] = [
     0x0000_0073,
 ];
 
+/// Adds 1, 2, 3 and so on to a0, in as many rounds as a1 says: it stores to the word that adds.
+const CHANGES_A_WORD: [u32; 11] = [
+    // auipc x5, 0
+    0x0000_0297,
+    // lw x6, 16(x5)
+    0x0102_A303,
+    // lui x7, 0x100
+    0x0010_03B7,
+    // addi x0, x0, 0
+    0x0000_0013,
+    // addi a0, a0, 1, the word that changes
+    0x0015_0513,
+    // add x6, x6, x7
+    0x0073_0333,
+    // sw x6, 16(x5)
+    0x0062_A823,
+    // addi a1, a1, -1
+    0xFFF5_8593,
+    // bne a1, x0, to the word that changes
+    0xFE05_98E3,
+    SET_EXIT,
+    ECALL,
+];
+
+/// Adds 1, 17, 33 and so on to a0, and sets a2 and a3 by turns, in as many rounds as a1 says: it stores to the last byte
+/// of the first word and to the first byte of the second.
+const CHANGES_TWO_WORDS: [u32; 13] = [
+    // auipc x5, 0
+    0x0000_0297,
+    // lui x6, 1
+    0x0000_1337,
+    // addi x6, x6, 0x300
+    0x3003_0313,
+    // lui x7, 8
+    0x0000_83B7,
+    // addi a0, a0, 1, the first word
+    0x0015_0513,
+    // addi a2, a2, 1, the second, which is then addi a3, a2, 1
+    0x0016_0613,
+    // addi x6, x6, 1
+    0x0013_0313,
+    // xor x6, x6, x7
+    0x0073_4333,
+    // sh x6, 19(x5)
+    0x0062_99A3,
+    // addi a1, a1, -1
+    0xFFF5_8593,
+    // bne a1, x0, to the first word
+    0xFE05_94E3,
+    SET_EXIT,
+    ECALL,
+];
+
 /// a0 at a brk, its answer, and how many pages there are then, of five at first; Grows where it maps pages.
 const LIMITS: [(u32, u32, u32, Stop); 8] = [
     (0, BASE, 5, Stop::Went),
@@ -341,8 +408,20 @@ fn map(rt: &impl Abort, pages: &mut Pages, page: u32, rights: u8) {
 
 /// A process at these words, with two pages of data from 0x3000 on and one to be read at 0x6000.
 fn process(rt: &impl Abort, alloc: Global, words: &[u32], a0: u32, a1: u32) -> User {
+    process_with(rt, alloc, words, RIGHT_READ | RIGHT_RUN, a0, a1)
+}
+
+/// The same, where the page of the words has these rights.
+fn process_with(
+    rt: &impl Abort,
+    alloc: Global,
+    words: &[u32],
+    rights: u8,
+    a0: u32,
+    a1: u32,
+) -> User {
     let mut pages = Pages::new(alloc);
-    map(rt, &mut pages, 1, RIGHT_READ | RIGHT_RUN);
+    map(rt, &mut pages, 1, rights);
     map(rt, &mut pages, 3, RIGHT_READ | RIGHT_WRITE);
     map(rt, &mut pages, 4, RIGHT_READ | RIGHT_WRITE);
     map(rt, &mut pages, 6, RIGHT_READ);
@@ -385,6 +464,34 @@ fn each_fault_has_its_signal(rt: HostRuntime) {
         assert_eq!(rt; user.step(), Stop::Fault(signal));
         assert_eq!(rt; user.count(), went);
     }
+}
+
+/// A process that changes its own code has these in a0, a2 and a3 at its exit after 100 rounds, run at once or step by step.
+fn changes_itself(rt: &impl Abort, alloc: Global, words: &[u32], want: (u32, u32, u32)) {
+    let rights = RIGHT_READ | RIGHT_WRITE | RIGHT_RUN;
+    let mut whole = process_with(rt, alloc, words, rights, 0, 100);
+    let mut single = process_with(rt, alloc, words, rights, 0, 100);
+    let (went, stop) = whole.run(10_000);
+    assert_eq!(rt; stop, Stop::AtCall);
+    assert!(rt; went > 500);
+    for _i in 0..went {
+        assert_eq!(rt; single.step(), Stop::Went);
+    }
+    assert_eq!(rt; single.step(), Stop::AtCall);
+    for user in [&whole, &single] {
+        match user.request(alloc) {
+            Ok(request) => {
+                assert_eq!(rt; (request.args[0], request.args[2], request.args[3]), want)
+            }
+            Err(_) => assert!(rt; false),
+        }
+    }
+}
+
+#[test]
+fn code_that_changes_is_executed_as_it_is(rt: HostRuntime) {
+    changes_itself(&rt, rt.alloc(), &CHANGES_A_WORD, (5050, 0, 0));
+    changes_itself(&rt, rt.alloc(), &CHANGES_TWO_WORDS, (79_300, 50, 51));
 }
 
 #[test]

@@ -12,7 +12,7 @@ ghost use Rattle.user_ctx.specs.Heap.{mapped_for};
 use crate::heap::{self, HEAP_END};
 use crate::stop::{Outcome, Plan, Stop, WordKind};
 use crate::word::kind_of;
-use crate::{frame, step};
+use crate::{frame, steps};
 use call_table::call::{BRK, GETPID, SIGRETURN};
 use call_table::{
     Answer, Bytes, Kind, ListOf, Need, NoMemory, RIGHT_READ, Request, is_local, need_of,
@@ -151,7 +151,7 @@ impl User {
         ensures end { EndsAs result.1 result.0 n self.new }
     {
         let most = n.min(MOST_STEPS - self.count);
-        let (went, outcome) = step::run(&mut self.pc, &mut self.x, &mut self.pages, most);
+        let (went, outcome) = steps::run(&mut self.pc, &mut self.x, &mut self.pages, most);
         self.count += went;
         (went, limited(outcome, most < n))
     }

@@ -1,8 +1,9 @@
 use Rattle.user_ctx.proofs.Running.{ran_more}
-use Rattle.user_ctx.proofs.step.run.Goals as goal
+use Rattle.user_ctx.proofs.steps.run_known.Goals as goal
 
 pub loop-i-preserved : goal.loop-i-preserved
 loop-i-preserved c = record {
-  zero = c.step.ensures.zero;
+  zero = c.step_known.ensures.zero;
   went = ran_more c.loop-i.i _ _ _ c.loop-i.invariant.went c.in-Done.ensures.is;
+  known = c.step_known.ensures.known;
 }
