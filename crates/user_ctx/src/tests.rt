@@ -22,7 +22,7 @@ const ECALL: u32 = 0x0000_0073;
 
 /// Two words, a0, a1, and what is then in a2, which is 0 at first.
 /// The bytes 80 FF 7F 01 stand at 0x3FFE, over two pages.
-const RESULTS: [(u32, u32, u32, u32, u32); 68] = [
+const RESULTS: [(u32, u32, u32, u32, u32); 72] = [
     // add
     (0x00B5_0633, 0x0000_0013, 0xFFFF_FFFF, 2, 1),
     // sub
@@ -420,6 +420,12 @@ fn process_with(
     a0: u32,
     a1: u32,
 ) -> User {
+    let pages = pages_with(rt, alloc, words, rights);
+    User::new(CODE, 0x5000, a0, a1, pages, BASE)
+}
+
+/// The pages of such a process.
+fn pages_with(rt: &impl Abort, alloc: Global, words: &[u32], rights: u8) -> Pages {
     let mut pages = Pages::new(alloc);
     map(rt, &mut pages, 1, rights);
     map(rt, &mut pages, 3, RIGHT_READ | RIGHT_WRITE);
@@ -432,7 +438,7 @@ fn process_with(
         pages.write(at, &words[i].to_le_bytes());
         at = at.wrapping_add(4);
     }
-    User::new(CODE, 0x5000, a0, a1, pages, BASE)
+    pages
 }
 
 /// What a process has in a2 at its exit.
@@ -512,6 +518,16 @@ fn a_break_has_its_limits(rt: HostRuntime) {
         }
         assert_eq!(rt; (user.count(), user.need()), (2, need), "{a0}");
         assert_eq!(rt; result_of(rt.alloc(), &mut user), Some(answer), "{a0}");
+    }
+}
+
+/// The heap may end at 0x70000000, and no higher.
+#[test]
+fn a_break_has_a_highest_address(rt: HostRuntime) {
+    for (a0, went, stop) in [(0x7000_0000, 1, Stop::Grows), (0x7000_0001, 2, Stop::Went)] {
+        let pages = pages_with(&rt, rt.alloc(), &[SET_BRK, ECALL], RIGHT_READ | RIGHT_RUN);
+        let mut user = User::new(CODE, 0x5000, a0, 0, pages, 0x6FFF_F000);
+        assert_eq!(rt; user.run(2), (went, stop));
     }
 }
 
