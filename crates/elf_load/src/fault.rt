@@ -2,7 +2,6 @@
 ghost use Rattle.std.specs.Prelude.{◌≡◌};
 ghost use Rattle.elf_load.specs.Faults.{fault_number};
 
-use call_table::NoMemory;
 use thiserror::Error;
 
 /// What is wrong with an executable, in the order in which it is looked for.
@@ -71,10 +70,4 @@ pub enum LoadError {
     Image(ImageFault),
     #[error("out of memory")]
     NoMemory,
-}
-
-impl From<NoMemory> for LoadError {
-    fn from(_error: NoMemory) -> LoadError {
-        LoadError::NoMemory
-    }
 }

@@ -3,7 +3,7 @@ ghost use Rattle.model.specs.Image.{start_size};
 
 use super::*;
 use crate::{header, loader, stack};
-use call_table::{NoMemory, Text, Words};
+use call_table::{NoMemory, Request, Text, Words};
 use page_set::Pages;
 use std::alloc::Global;
 use std::test::Fail;
@@ -92,6 +92,94 @@ fn starts_hello(rt: HostRuntime) -> Result<(), Fail> {
     Ok(())
 }
 
+/// The words `hello` and `a`.
+fn two_words(alloc: Global) -> Result<Words, NoMemory>
+    ensures { IfOk result (λ w. start_size w ≤ 8192) }
+{
+    let mut words = Words::new(alloc);
+    words.push(Text::new(alloc, "hello")?)?;
+    words.push(Text::new(alloc, "a")?)?;
+    Ok(words)
+}
+
+/// An executable of these instructions, whose segment takes so many bytes of memory.
+fn program(instructions: [u32; 5], memory_size: u32) -> [u8; 104] {
+    let mut file = [0; 104];
+    file[..84].copy_from_slice(&HELLO[..84]);
+    file[68] = 20;
+    file[72..76].copy_from_slice(&memory_size.to_le_bytes());
+    for i in 0..5usize {
+        let place = 84 + 4 * i;
+        file[place..place + 4].copy_from_slice(&instructions[i].to_le_bytes());
+    }
+    file
+}
+
+/// What a program asks at its first call that does not end where it runs.
+fn first_request(alloc: Global, file: &[u8], words: &Words) -> Option<Request>
+    requires { start_size words.now ≤ 8192 }
+{
+    let mut user = match load(alloc, file, words) {
+        Ok(user) => user,
+        Err(_) => return None,
+    };
+    match user.run(100) {
+        (_, Stop::AtCall) => match user.request(alloc) {
+            Ok(request) => Some(request),
+            Err(_) => None,
+        },
+        _ => None,
+    }
+}
+
+/// A process starts with the number of its words in a0, their table in a1, and the stack pointer at or below that.
+///
+/// `hello` and `a` take 8 bytes with their zeros, from 0x7FFFFFF8 on. Below them stand three words, the table.
+#[test]
+fn start_registers(rt: HostRuntime) -> Result<(), Fail> {
+    let words = two_words(rt.alloc())?;
+    // addi a2, sp, 0; addi a7, x0, 1; ecall
+    let file = program([0x0001_0613, 0x0010_0893, 0x73, 0, 0], 20);
+    match first_request(rt.alloc(), file.as_slice(), &words) {
+        Some(request) => {
+            assert_eq!(rt; request.number, 1);
+            assert_eq!(rt; request.args, [2, 0x7fff_ffec, 0x7fff_ffe0, 0, 0, 0]);
+        }
+        None => assert!(rt; false),
+    }
+    Ok(())
+}
+
+/// A process that writes its stack from its table on.
+#[test]
+fn start_stack(rt: HostRuntime) -> Result<(), Fail> {
+    let words = two_words(rt.alloc())?;
+    // addi a2, x0, 20; addi a7, x0, 9; ecall
+    let file = program([0x0140_0613, 0x0090_0893, 0x73, 0, 0], 20);
+    let stack = b"\xf8\xff\xff\x7f\xfe\xff\xff\x7f\0\0\0\0hello\0a\0";
+    match first_request(rt.alloc(), file.as_slice(), &words) {
+        Some(request) => assert_eq!(rt; request.bytes.as_slice(), stack.as_slice()),
+        None => assert!(rt; false),
+    }
+    Ok(())
+}
+
+/// A process asks for its break: the first page boundary at or above its segment's end.
+#[test]
+fn start_break(rt: HostRuntime) -> Result<(), Fail> {
+    let words = two_words(rt.alloc())?;
+    // addi a0, x0, 0; addi a7, x0, 18; ecall; addi a7, x0, 1; ecall
+    let code = [0x513, 0x0120_0893, 0x73, 0x0010_0893, 0x73];
+    for (memory_size, base) in [(20, 0x1_1000), (4096, 0x1_1000), (4097, 0x1_2000)] {
+        let file = program(code, memory_size);
+        match first_request(rt.alloc(), file.as_slice(), &words) {
+            Some(request) => assert_eq!(rt; request.args[0], base, "{memory_size} bytes"),
+            None => assert!(rt; false, "{memory_size} bytes"),
+        }
+    }
+    Ok(())
+}
+
 /// The first bytes of `hello`.
 #[test]
 fn short_files(rt: HostRuntime) -> Result<(), Fail> {
@@ -108,18 +196,21 @@ fn short_files(rt: HostRuntime) -> Result<(), Fail> {
     Ok(())
 }
 
-/// `hello` with one byte of its header changed to 0xFF.
+/// `hello` with one byte of its headers changed to 0xFF.
 #[test]
 fn changed_headers(rt: HostRuntime) -> Result<(), Fail> {
     let words = hello_words(rt.alloc())?;
-    for i in 0..52usize {
+    for i in 0..84usize {
         let want = match i {
             0..=6 | 20..=23 => 2,
             16 | 17 => 3,
             18 | 19 => 4,
             36 => 5,
             28..=31 | 42..=45 => 6,
-            24..=27 => 11,
+            56..=59 | 68..=71 => 8,
+            63 | 75 => 9,
+            74 => 10,
+            24..=27 | 52..=55 | 61 | 62 => 11,
             _ => 0,
         };
         let mut file = HELLO;

@@ -6,12 +6,15 @@ ghost use Rattle.one_node.specs.Playing.{IsOutcomeOf, Fails};
 use crate::home::{Applied, Home, Outcome, Setup};
 use model::step::Step;
 use std::alloc::Global;
+use thiserror::Error;
 
 /// Why steps were not played.
-#[derive(Clone, Copy, Debug, PartialEq, Eq)]
+#[derive(Clone, Copy, Debug, PartialEq, Eq, Error)]
 pub enum PlayFault {
     /// The first step whose condition fails, counted from 0; 2^32 - 1 where it is more.
+    #[error("step {at} is not enabled")]
     NotEnabled { at: u32 },
+    #[error("out of memory")]
     NoMemory,
 }
 

@@ -2,7 +2,6 @@
 ghost use Rattle.std.specs.Prelude.{◌≡◌};
 ghost use Rattle.rv_asm.specs.Faults.{number_of_kind};
 
-use call_table::NoMemory;
 use thiserror::Error;
 
 /// What is wrong with a line. Each kind has the number that it is reported by.
@@ -60,10 +59,4 @@ pub enum AsmError {
     /// Memory that was asked for was not found.
     #[error("out of memory")]
     NoMemory,
-}
-
-impl From<NoMemory> for AsmError {
-    fn from(_e: NoMemory) -> AsmError {
-        AsmError::NoMemory
-    }
 }
