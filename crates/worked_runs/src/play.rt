@@ -1,5 +1,5 @@
 // The plain system on one node by its own calls, and the calls that take memory, with memory enough.
-use crate::images::HELLO;
+use crate::images::{HELLO, program};
 use crate::in_memory::named;
 use crate::runs::REPLIES;
 use call_table::{End, NamedFiles, PidState};
@@ -18,9 +18,14 @@ use user_ctx::Users;
 
 /// The process of hello alone.
 fn hello(alloc: Global) -> Result<Setup, Fail> {
+    setup_of(alloc, &HELLO)
+}
+
+/// The process of a file alone.
+fn setup_of(alloc: Global, file: &[u8]) -> Result<Setup, Fail> {
     let words = words_of(alloc, "hello")?;
     let mut users = Users::new(alloc);
-    users.push(load(alloc, HELLO.as_slice(), &words)?)?;
+    users.push(load(alloc, file, &words)?)?;
     Ok(Setup {
         users,
         feeds: Feeds::new(alloc),
@@ -59,6 +64,19 @@ fn steps_that_are_played(rt: HostRuntime) -> Result<(), Fail> {
         [(1, PidState::Live)].as_slice()
     );
     assert_eq!(rt; (outcome.terminal.len(), outcome.replies.len()), (0, 0));
+    Ok(())
+}
+
+/// A word that is no instruction is fallen from.
+#[test]
+fn a_fall_that_is_played(rt: HostRuntime) -> Result<(), Fail> {
+    let zero = program(rt.alloc(), b"", 4, &[0])?;
+    let setup = setup_of(rt.alloc(), zero.bytes.as_slice())?;
+    let outcome = play(rt.alloc(), &setup, &[Step::Launch(0), Step::Fall(1)]).ok();
+    assert_eq!(rt;
+        outcome.ok_or("an outcome")?.statuses.as_slice(),
+        [(1, PidState::Signal(4))].as_slice()
+    );
     Ok(())
 }
 

@@ -1,7 +1,7 @@
 // The worked runs of one line.
 use crate::images::images;
 use crate::in_memory::{Failing, NEVER, RUN, Told, run_in_memory, run_to_end, tells};
-use call_table::{Bytes, End, NoMemory, PidState, Reply3};
+use call_table::{Bytes, End, Named, Names, NoMemory, PidState, Reply3};
 use mosix_shell::mosix::Why;
 use mosix_shell::run::{Last, Run};
 use node_event::{Event, Way, What};
@@ -16,7 +16,7 @@ fn run(alloc: Global, words: &[&str], script: &[u8], failing: Failing) -> Result
 }
 
 /// The status of a script's run, and its report or line.
-const SCRIPTS: [(&[u8], u8, &[u8]); 10] = [
+const SCRIPTS: [(&[u8], u8, &[u8]); 15] = [
     (
         b"run hello",
         0,
@@ -33,6 +33,11 @@ const SCRIPTS: [(&[u8], u8, &[u8]); 10] = [
         b"terminal 3\nhi\n\nprocess 1 exit 0\ndone\n",
     ),
     (b"run hello\nrun hello\n", 10, b"not built\n"),
+    (b"", 10, b"not built\n"),
+    (b"run  hello", 10, b"not built\n"),
+    (b"run hello \n", 10, b"not built\n"),
+    (b"run hello\n\n", 10, b"not built\n"),
+    (b"walk hello\n", 10, b"not built\n"),
     (b"run cut", 4, b"bad image 1 1\n"),
     (b"run short", 4, b"bad image 1 8\n"),
     (b"run none", 4, b"bad image 1 12\n"),
@@ -49,6 +54,44 @@ fn scripts(rt: HostRuntime) -> Result<(), Fail> {
     }
     let told = run(rt.alloc(), &RUN, b"run jump2\n", NEVER)?;
     tells(&rt, &told, 0, b"terminal 0\n\nprocess 1 signal 11\ndone\n");
+    Ok(())
+}
+
+/// The run of a name of so many bytes, which no image has.
+fn run_long_name(alloc: Global, length: usize) -> Result<Told, NoMemory> {
+    let mut script = Bytes::from_slice(alloc, b"run ")?;
+    for _i in 0..length {
+        script.push(b'n')?;
+    }
+    run(alloc, &RUN, script.as_slice(), NEVER)
+}
+
+#[test]
+fn names(rt: HostRuntime) -> Result<(), Fail> {
+    let told = run_long_name(rt.alloc(), 1000)?;
+    tells(&rt, &told, 4, b"bad image 1 12\n");
+    let told = run_long_name(rt.alloc(), 1001)?;
+    tells(&rt, &told, 10, b"not built\n");
+    Ok(())
+}
+
+/// The run of an image of so many zeros.
+fn run_zeros(alloc: Global, length: usize) -> Result<Told, NoMemory> {
+    let zeros = vec![in alloc; 0; length]?;
+    let mut files = Names::new(alloc);
+    files.push(Named {
+        name: Bytes::from_slice(alloc, b"zeros")?,
+        bytes: Bytes::from_vec(zeros),
+    })?;
+    run_in_memory(alloc, &RUN, b"run zeros", files, NEVER)
+}
+
+#[test]
+fn the_longest_image(rt: HostRuntime) -> Result<(), Fail> {
+    let told = run_zeros(rt.alloc(), 16_777_216)?;
+    tells(&rt, &told, 4, b"bad image 1 2\n");
+    let told = run_zeros(rt.alloc(), 16_777_217)?;
+    tells(&rt, &told, 4, b"bad image 1 13\n");
     Ok(())
 }
 
