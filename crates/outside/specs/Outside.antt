@@ -47,8 +47,19 @@ abbrev pub LoadedFrom : Option (List ℕ) → Result (List ℕ) LoadFault → Ty
 LoadedFrom file (Ok bytes) = (file ≡ Some bytes) × (length bytes ≤ 16777216)
 LoadedFrom file (Err e) = Misses file e
 
+-- files that are not told are never absent or too long
+abbrev pub MissesUntold : LoadFault → Type 0
+MissesUntold fault.Absent = ⊥
+MissesUntold fault.TooLong = ⊥
+MissesUntold fault.Failed = Unit {0}
+MissesUntold fault.NoMemory = Unit {0}
+
+abbrev pub LoadedUntold : Result (List ℕ) LoadFault → Type 0
+LoadedUntold (Ok bytes) = Unit {0}
+LoadedUntold (Err e) = MissesUntold e
+
 abbrev pub Loaded : Option (List NamedFile) → List ℕ → Result (List ℕ) LoadFault → Type 0
-Loaded None name r = Unit {0}
+Loaded None name r = LoadedUntold r
 Loaded (Some names) name r = LoadedFrom (file_named names name) r
 
 -- absence and length are told only where the files are
