@@ -1,5 +1,5 @@
 // The real outside: it tells nothing of its bytes, and counts its faults.
-ghost use Rattle.std.specs.Prelude.{◌≡◌, ◌≤◌, None, length, IfOk, IfErr, OnOk};
+ghost use Rattle.std.specs.Prelude.{◌≡◌, ◌≤◌, None, length, take, IfOk, IfErr, IfSome, OnOk};
 ghost use Rattle.std.specs.Io.KnownBytes.{ReadConsumes, Appends};
 ghost use Rattle.outside.specs.Outside.{Takes, HasCause, Loaded, LoadCause};
 ghost use Rattle.outside.specs.Outside.{Appends as SinkAppends};
@@ -9,12 +9,15 @@ use crate::plan::one_more;
 use crate::traits::{Failed, Images, LoadFault, Sink, Source};
 use call_table::Bytes;
 use std::alloc::Global;
-use std::fs;
-use std::io::{ErrorKind, Read, Write};
+use std::fs::File;
+use std::io::{self, ErrorKind, Read, Write};
 use std::rt::Files;
 
 /// Files longer than this are refused.
 const FILE_BYTES: usize = 16_777_216;
+
+/// One byte more than is loaded: enough to see that a file is too long.
+const READ_BYTES: u64 = FILE_BYTES as u64 + 1;
 
 /// Standard input, or any other reader.
 #[derive(Drop)]
@@ -111,6 +114,20 @@ impl<W: Write + Drop> Sink for StdSink<W> {
     }
 }
 
+/// What a reader gives, up to one byte past the longest file that is loaded.
+fn read_front<R: Read + Drop>(alloc: Global, reader: R) -> io::Result<Vec<u8>>
+    ensures { IfOk result (λ bytes. IfSome (R.remaining reader) (λ left. bytes.items ≡ take 16777217 left)) }
+{
+    let mut bytes = Vec::new(alloc);
+    reader.take(READ_BYTES).read_to_end(&mut bytes)?;
+    Ok(bytes)
+}
+
+/// The front of a file.
+fn read_file<F: Files>(files: &F, alloc: Global, name: &str) -> io::Result<Vec<u8>> {
+    read_front(alloc, File::open(files, name)?)
+}
+
 /// Files of the working folder.
 #[derive(Drop)]
 pub struct FileImages<F: Files + Drop> {
@@ -148,7 +165,7 @@ impl<F: Files + AllocGlobal + Drop> Images for FileImages<F> {
         ensures counts { CountsLoad self.old.faults self.new.faults result }
         ensures short { IfOk result (λ bytes. length bytes ≤ 16777216) }
     {
-        match fs::read(&self.files, name) {
+        match read_file(&self.files, alloc, name) {
             Ok(bytes) if bytes.len() <= FILE_BYTES => Ok(Bytes::from_vec(bytes)),
             Err(e) if e.kind() == ErrorKind::OutOfMemory => Err(LoadFault::NoMemory),
             _ => {
