@@ -1,5 +1,6 @@
 -- What the outside answers.
-use Rattle.std.specs.Prelude.{◌≡◌, ℕ, ◌+◌, ◌-◌, ◌^◌, ◌≤◌, ◌<◌, min, List, [], ◌∷◌, ◌++◌, length, take, drop, Option, Some, None, Result, Ok, Err, OnErr, nat_eq, if◌then◌else◌}
+use Rattle.std.specs.Prelude.{◌≡◌, ℕ, ◌+◌, ◌-◌, ◌^◌, ◌≤◌, ◌<◌, min, List, [], ◌∷◌, ◌++◌, length, take, drop, Option, Some, None, Result, Ok, Err, OnErr, nat_eq, ◌==◌, Bool, if◌then◌else◌}
+use Rattle.std.specs.List.{list_any}
 use Rattle.std.specs.Cmp.Lexicographic.{pointwise}
 use Rattle.call_table.specs.declared.files.Named.{Named}
 use Rattle.outside.specs.declared.traits.Failed.{Failed}
@@ -34,6 +35,10 @@ NamedFile = Named
 abbrev pub file_named : List NamedFile → List ℕ → Option (List ℕ)
 file_named [] name = None
 file_named (f ∷ fs) name = if pointwise nat_eq name f.name then Some f.bytes else file_named fs name
+
+-- a name with a `/` may be that of a file in another folder
+abbrev pub has_slash : List ℕ → Bool
+has_slash name = list_any (λ byte. byte == 47) name
 
 abbrev pub Misses : Option (List ℕ) → LoadFault → Type 0
 Misses file fault.Absent = file ≡ None
