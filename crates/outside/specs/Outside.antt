@@ -1,8 +1,7 @@
 -- What the outside answers.
-use Rattle.std.specs.Prelude.{◌≡◌, ℕ, ◌+◌, ◌-◌, ◌^◌, ◌≤◌, ◌<◌, min, List, [], ◌∷◌, ◌++◌, length, take, drop, Option, Some, None, Result, Ok, Err, OnErr, nat_eq, Bool, nat_lt, if◌then◌else◌}
-use Rattle.std.specs.Cmp.Lexicographic.{pointwise}
-use Rattle.std.specs.Map.{lookup}
+use Rattle.std.specs.Prelude.{◌≡◌, ℕ, ◌+◌, ◌-◌, ◌^◌, ◌≤◌, ◌<◌, min, List, [], ◌∷◌, ◌++◌, length, take, drop, Option, Some, None, Result, Ok, Err, OnErr, nat_eq, ◌==◌, Bool, if◌then◌else◌}
 use Rattle.std.specs.List.{list_any}
+use Rattle.std.specs.Cmp.Lexicographic.{pointwise}
 use Rattle.call_table.specs.declared.files.Named.{Named}
 use Rattle.outside.specs.declared.traits.Failed.{Failed}
 use Rattle.outside.specs.declared.traits.LoadFault.{LoadFault}
@@ -37,6 +36,10 @@ abbrev pub file_named : List NamedFile → List ℕ → Option (List ℕ)
 file_named [] name = None
 file_named (f ∷ fs) name = if pointwise nat_eq name f.name then Some f.bytes else file_named fs name
 
+-- a name with a `/` may be that of a file in another folder
+abbrev pub has_slash : List ℕ → Bool
+has_slash name = list_any (λ byte. byte == 47) name
+
 abbrev pub Misses : Option (List ℕ) → LoadFault → Type 0
 Misses file fault.Absent = file ≡ None
 Misses file fault.TooLong = (bytes : List ℕ) × (file ≡ Some bytes) × (16777216 < length bytes)
@@ -47,8 +50,19 @@ abbrev pub LoadedFrom : Option (List ℕ) → Result (List ℕ) LoadFault → Ty
 LoadedFrom file (Ok bytes) = (file ≡ Some bytes) × (length bytes ≤ 16777216)
 LoadedFrom file (Err e) = Misses file e
 
+-- files that are not told are never absent or too long
+abbrev pub MissesUntold : LoadFault → Type 0
+MissesUntold fault.Absent = ⊥
+MissesUntold fault.TooLong = ⊥
+MissesUntold fault.Failed = Unit {0}
+MissesUntold fault.NoMemory = Unit {0}
+
+abbrev pub LoadedUntold : Result (List ℕ) LoadFault → Type 0
+LoadedUntold (Ok bytes) = Unit {0}
+LoadedUntold (Err e) = MissesUntold e
+
 abbrev pub Loaded : Option (List NamedFile) → List ℕ → Result (List ℕ) LoadFault → Type 0
-Loaded None name r = Unit {0}
+Loaded None name r = LoadedUntold r
 Loaded (Some names) name r = LoadedFrom (file_named names name) r
 
 -- absence and length are told only where the files are

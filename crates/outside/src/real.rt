@@ -1,7 +1,7 @@
 // The real outside: it tells nothing of its bytes, and counts its faults.
-ghost use Rattle.std.specs.Prelude.{◌≡◌, ◌≤◌, None, length, IfOk, IfErr, OnOk};
+ghost use Rattle.std.specs.Prelude.{◌≡◌, ◌≤◌, None, Err, true, length, take, IfOk, IfErr, IfSome, OnOk};
 ghost use Rattle.std.specs.Io.KnownBytes.{ReadConsumes, Appends};
-ghost use Rattle.outside.specs.Outside.{Takes, HasCause, Loaded, LoadCause};
+ghost use Rattle.outside.specs.Outside.{Takes, HasCause, Loaded, LoadCause, has_slash};
 ghost use Rattle.outside.specs.Outside.{Appends as SinkAppends};
 ghost use Rattle.outside.specs.Fails.{Counts, CountsLoad};
 
@@ -9,12 +9,15 @@ use crate::plan::one_more;
 use crate::traits::{Failed, Images, LoadFault, Sink, Source};
 use call_table::Bytes;
 use std::alloc::Global;
-use std::fs;
-use std::io::{ErrorKind, Read, Write};
+use std::fs::File;
+use std::io::{self, ErrorKind, Read, Write};
 use std::rt::Files;
 
 /// Files longer than this are refused.
 const FILE_BYTES: usize = 16_777_216;
+
+/// One byte more than is loaded: enough to see that a file is too long.
+const READ_BYTES: u64 = FILE_BYTES as u64 + 1;
 
 /// Standard input, or any other reader.
 #[derive(Drop)]
@@ -111,6 +114,27 @@ impl<W: Write + Drop> Sink for StdSink<W> {
     }
 }
 
+/// Whether a name has a `/`, so that its file may be in another folder.
+fn has_slash(name: &str) -> bool
+    ensures { result ≡ has_slash name.now }
+{
+    name.as_bytes().iter().any(|byte| *byte == b'/')
+}
+
+/// What a reader gives, up to one byte past the longest file that is loaded.
+fn read_front<R: Read + Drop>(alloc: Global, reader: R) -> io::Result<Vec<u8>>
+    ensures { IfOk result (λ bytes. IfSome (R.remaining reader) (λ left. bytes.items ≡ take 16777217 left)) }
+{
+    let mut bytes = Vec::new(alloc);
+    reader.take(READ_BYTES).read_to_end(&mut bytes)?;
+    Ok(bytes)
+}
+
+/// The front of a file.
+fn read_file<F: Files>(files: &F, alloc: Global, name: &str) -> io::Result<Vec<u8>> {
+    read_front(alloc, File::open(files, name)?)
+}
+
 /// Files of the working folder.
 #[derive(Drop)]
 pub struct FileImages<F: Files + Drop> {
@@ -141,20 +165,23 @@ impl<F: Files + AllocGlobal + Drop> Images for FileImages<F> {
 
     ghost faults = { λ s. s.faults };
 
-    /// The bytes of the file of that name. A file that is missing or too long counts as a fault, want of memory does not.
+    /// The bytes of the file of that name. A name with a `/` and a file that is missing or too long count as faults,
+    /// want of memory does not.
     fn load(&mut self, alloc: Global, name: &str) -> Result<Bytes, LoadFault>
         ensures bytes { Loaded None name.now result }
         ensures cause { LoadCause self.old.faults self.new.faults result }
         ensures counts { CountsLoad self.old.faults self.new.faults result }
+        ensures elsewhere { has_slash name.now ≡ true → result ≡ Err LoadFault.Failed }
         ensures short { IfOk result (λ bytes. length bytes ≤ 16777216) }
     {
-        match fs::read(&self.files, name) {
-            Ok(bytes) if bytes.len() <= FILE_BYTES => Ok(Bytes::from_vec(bytes)),
-            Err(e) if e.kind() == ErrorKind::OutOfMemory => Err(LoadFault::NoMemory),
-            _ => {
-                self.faults = one_more(self.faults);
-                Err(LoadFault::Failed)
+        if !has_slash(name) {
+            match read_file(&self.files, alloc, name) {
+                Ok(bytes) if bytes.len() <= FILE_BYTES => return Ok(Bytes::from_vec(bytes)),
+                Err(e) if e.kind() == ErrorKind::OutOfMemory => return Err(LoadFault::NoMemory),
+                _ => {}
             }
         }
+        self.faults = one_more(self.faults);
+        Err(LoadFault::Failed)
     }
 }

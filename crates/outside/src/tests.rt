@@ -1,9 +1,10 @@
 use super::*;
 use call_table::{Bytes, Named, Names, NoMemory};
 use std::alloc::Global;
+use std::fs::{self, File};
 use std::io::{self, ErrorKind, Read, Write};
 use std::test::Fail;
-use std::{fs, process};
+use std::{env, process};
 
 fn calls(alloc: Global, numbers: &[u64]) -> Result<Calls, NoMemory> {
     Ok(Calls::from_vec(numbers.to_vec(alloc)?))
@@ -185,25 +186,56 @@ fn a_real_sink(rt: HostRuntime) {
     }
 }
 
-/// Whether a file is loaded, and the faults afterwards.
-fn tries(
-    rt: &HostRuntime,
-    images: &mut FileImages<HostRuntime>,
-    name: &str,
-) -> (Result<usize, LoadFault>, u64) {
-    let got = images.load(rt.alloc(), name).map(|bytes| bytes.len());
-    (got, images.faults())
+/// The name of each load, what it gives, None where it fails, and the faults afterwards.
+const REAL_LOADS: [(&str, Option<&[u8]>, u64); 12] = [
+    ("short", Some(b"abc"), 0),
+    ("empty", Some(b""), 0),
+    ("absent", None, 1),
+    ("", None, 2),
+    (".", None, 3),
+    ("..", None, 4),
+    ("inner", None, 5),
+    ("./short", None, 6),
+    ("inner/short", None, 7),
+    ("/dev/zero", None, 8),
+    ("long", None, 9),
+    ("short", Some(b"abc"), 9),
+];
+
+/// Makes files in the working folder.
+fn make_files(rt: &HostRuntime) -> Result<(), Fail> {
+    fs::write(rt, "short", b"abc".as_slice())?;
+    fs::write(rt, "empty", b"".as_slice())?;
+    fs::create_dir(rt, "inner")?;
+    fs::write(rt, "inner/short", b"abc".as_slice())?;
+    File::create(rt, "full")?.set_len(16_777_216)?;
+    File::create(rt, "long")?.set_len(16_777_217)?;
+    Ok(())
 }
 
 #[test]
 fn real_files(rt: HostRuntime) -> Result<(), Fail> {
+    let alloc = rt.alloc();
     let id = process::id(rt.process());
-    let name = format!(in rt.alloc(); "/tmp/mosixsim_outside_{id}")?;
-    let name = name.as_str();
-    fs::write(&rt, name, b"abc".as_slice())?;
+    let folder = format!(in alloc; "/tmp/mosixsim_outside_{id}")?;
+    fs::create_dir(&rt, folder.as_str())?;
+    env::set_current_dir(&rt, folder.as_str())?;
+    make_files(&rt)?;
     let mut images = FileImages::new(rt.clone()?);
-    assert_eq!(rt; tries(&rt, &mut images, name), (Ok(3), 0));
-    fs::remove_file(&rt, name)?;
-    assert_eq!(rt; tries(&rt, &mut images, name), (Err(LoadFault::Failed), 1));
+    for (i, (name, want, faults)) in REAL_LOADS.iter().enumerate() {
+        match (images.load(alloc, name), want) {
+            (Ok(bytes), Some(want)) => assert!(rt; bytes.as_slice() == *want, "at load {i}"),
+            (Err(LoadFault::Failed), None) => {}
+            _ => assert!(rt; false, "at load {i}"),
+        }
+        assert_eq!(rt; images.faults(), *faults, "after load {i}");
+    }
+    let full = images.load(alloc, "full").map(|bytes| {
+        let is_zero = bytes.as_slice().iter().all(|byte| *byte == 0);
+        (bytes.len(), is_zero)
+    });
+    assert_eq!(rt; full, Ok((16_777_216, true)));
+    env::set_current_dir(&rt, "/")?;
+    fs::remove_dir_all(&rt, folder.as_str())?;
     Ok(())
 }
