@@ -52,9 +52,9 @@ fn sizes(rt: HostRuntime) -> Result<(), Fail> {
 fn starts_at_its_first_byte(rt: HostRuntime) -> Result<(), Fail> {
     let alloc = rt.alloc();
     let words = one_word(alloc)?;
-    let text = b"la a1, data\nlb a0, 0(a1)\nsb a0, 1(a1)\necall\ndata: .byte 7\n.bss 1";
+    let text = b"la a1, data\nlb a0, 0(a1)\nsb a0, 1(a1)\nsys 1\ndata: .byte 7\n.bss 1";
     let file = assemble(alloc, text.as_slice())?;
     let mut user = load(alloc, file.as_slice(), &words)?;
-    assert_eq!(rt; user.run(10), (4, Stop::AtCall));
+    assert_eq!(rt; user.run(10), (6, Stop::AtCall));
     Ok(())
 }
