@@ -75,7 +75,7 @@ pub fn run_to_end(
 }
 
 /// The status of one run, and why.
-fn answer(
+pub fn answer(
     alloc: Global,
     words: &[&str],
     source: &mut MemSource,

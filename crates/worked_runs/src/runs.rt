@@ -1,11 +1,11 @@
 // The worked runs of one line.
 use crate::images::images;
-use crate::in_memory::{Failing, NEVER, RUN, Told, run_in_memory, run_to_end, tells};
+use crate::in_memory::{Failing, NEVER, RUN, Told, answer, run_in_memory, run_to_end, tells};
 use call_table::{Bytes, End, Named, Names, NoMemory, PidState, Reply3};
 use mosix_shell::mosix::Why;
 use mosix_shell::run::{Last, Run};
 use node_event::{Event, Way, What};
-use outside::{Calls, MemImages, MemSink, MemSource};
+use outside::{Calls, MemImages, MemSink, MemSource, Source};
 use std::alloc::Global;
 use std::process::Abort;
 use std::test::Fail;
@@ -109,6 +109,31 @@ fn words(rt: HostRuntime) -> Result<(), Fail> {
         let told = run(rt.alloc(), words, b"run hello\n", NEVER)?;
         tells(&rt, &told, 2, b"bad words\n");
     }
+    Ok(())
+}
+
+/// The next bytes of a source, eight at most: how many there are.
+fn next_bytes(source: &mut MemSource) -> usize {
+    let mut bytes = [0; 8];
+    source.read(&mut bytes).unwrap_or(0)
+}
+
+/// How many of the next eight bytes are left of an input of so many, after its run.
+fn left_behind(alloc: Global, words: &[&str], length: usize) -> Result<usize, NoMemory> {
+    let input = vec![in alloc; b'n'; length]?;
+    let mut source = MemSource::new(Bytes::from_vec(input), Calls::new(alloc));
+    let mut images = MemImages::new(Names::new(alloc), Calls::new(alloc));
+    let mut sink = MemSink::new(alloc, Calls::new(alloc), 4096)?;
+    answer(alloc, words, &mut source, &mut images, &mut sink)?;
+    Ok(next_bytes(&mut source))
+}
+
+/// An input is read to the byte after its limit, and not at all where the words are bad.
+#[test]
+fn what_is_read(rt: HostRuntime) -> Result<(), Fail> {
+    assert_eq!(rt; left_behind(rt.alloc(), &RUN, 65_540)?, 3);
+    assert_eq!(rt; left_behind(rt.alloc(), &["asm"], 1_048_580)?, 3);
+    assert_eq!(rt; left_behind(rt.alloc(), &["run"], 5)?, 5);
     Ok(())
 }
 
