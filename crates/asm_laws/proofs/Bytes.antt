@@ -3,7 +3,7 @@ use Rattle.std.proofs.Common.{◌≡◌, inl, inr, ℕ, zero, suc, ◌+◌, ◌-
 use Rattle.std.proofs.lemmas.Bool.{cases_lt}
 use Rattle.std.proofs.lemmas.Bool.Decides.{nat_tests}
 use Rattle.std.proofs.lemmas.List.{get_or-append_right, get_or_past}
-use Rattle.model.specs.Image.{tabulated, contains, segment_byte, placed_byte, words_bytes, words_start, address_table, table_start, stack_byte, start_size}
+use Rattle.elf_load.specs.Image.{tabulated, contains, segment_byte, placed_byte, words_bytes, words_start, address_table, table_start, stack_byte, start_size}
 use Rattle.rv_asm.specs.File.{elf_header, program_header, file_of}
 use Rattle.elf_load.proofs.Stacks.{size_is}
 use Rattle.asm_laws.specs.Loaded.{text_byte}

@@ -2,8 +2,8 @@
 use Rattle.std.proofs.Common.{◌≡◌, ℕ, ◌+◌, ◌^◌, ◌<◌, ◌≤◌, List, [], ◌∷◌, length, refl, ap, ◌∙◌, arith, None, false, nat_lt}
 use Rattle.std.proofs.lemmas.Bool.Decides.{nat_tests}
 use Rattle.page_set.specs.Pages.{little}
-use Rattle.model.specs.Image.{entry_of, headers_from, headers_of, is_out_of_file, is_out_of_range, header_fault, segment_fault}
-use Rattle.model.specs.declared.image.Header.{Header}
+use Rattle.elf_load.specs.Image.{entry_of, headers_from, headers_of, is_out_of_file, is_out_of_range, header_fault, segment_fault}
+use Rattle.elf_load.specs.declared.image.Header.{Header}
 use Rattle.rv_asm.specs.File.{word, file_of}
 
 little_word : (n : ℕ) → n < 2 ^ 32 → little (word n) ≡ n

@@ -5,10 +5,10 @@ use Rattle.std.specs.Option.{option_or}
 use Rattle.std.specs.FinMap as maps
 use Rattle.std.proofs.lemmas.Bool.Decides.{nat_tests, eqb_tells}
 use Rattle.page_set.specs.Pages.{Page, PageMap}
-use Rattle.model.specs.User.{UserState}
-use Rattle.model.specs.Request.{page_above}
-use Rattle.model.specs.declared.image.Header.{Header}
-use Rattle.model.specs.Image.{entry_of, headers_of, base_of, tabulated, start_page, stack_byte, start_size, start_registers, start_pages, pages_below, grants_execute, is_bad_entry, segment_fault, header_fault, start_user, image_or, image_of}
+use Rattle.user_spec.specs.User.{UserState}
+use Rattle.user_spec.specs.Request.{page_above}
+use Rattle.elf_load.specs.declared.image.Header.{Header}
+use Rattle.elf_load.specs.Image.{entry_of, headers_of, base_of, tabulated, start_page, stack_byte, start_size, start_registers, start_pages, pages_below, grants_execute, is_bad_entry, segment_fault, header_fault, start_user, image_or, image_of}
 use Rattle.rv_asm.specs.File.{file_of}
 use Rattle.rv_asm.specs.Layout.{start, defined_from}
 use Rattle.rv_asm.specs.Lines.{line_of, lines_of}

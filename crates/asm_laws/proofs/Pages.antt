@@ -5,9 +5,9 @@ use Rattle.std.specs.Ordering.{nat_cmp}
 use Rattle.std.proofs.lemmas.Bool.{cases_Bool}
 use Rattle.std.proofs.lemmas.Bool.Decides.{nat_tests, leb_tells}
 use Rattle.page_set.specs.Pages.{Page, PageMap}
-use Rattle.model.specs.Image.{touches, touched, is_stack_page, tabulated, placed_byte, start_page, stack_byte, start_size, with_some_page, pages_below}
-use Rattle.model.specs.Request.{page_above}
-use Rattle.model.specs.declared.image.Header.{Header}
+use Rattle.elf_load.specs.Image.{touches, touched, is_stack_page, tabulated, placed_byte, start_page, stack_byte, start_size, with_some_page, pages_below}
+use Rattle.user_spec.specs.Request.{page_above}
+use Rattle.elf_load.specs.declared.image.Header.{Header}
 use Rattle.rv_asm.specs.File.{file_of}
 use Rattle.elf_load.proofs.Maps.{get_above, len_inserted}
 use Rattle.asm_laws.specs.Loaded.{text_byte, is_text_page, text_page}

@@ -1,9 +1,9 @@
 -- The process that a text starts: its bytes stand from 0x10000 on, and zeros behind them.
 use Rattle.std.specs.Prelude.{◌≡◌, ◌≤◌, ℕ, ◌+◌, ◌-◌, ◌*◌, ◌^◌, List, length, slice_index, Bool, ◌&&◌, ◌==◌, nat_le, nat_lt, if◌then◌else◌, Option, Some, None, Result, Ok, Err}
 use Rattle.page_set.specs.Pages.{Page}
-use Rattle.model.specs.User.{UserState}
-use Rattle.model.specs.Request.{page_above}
-use Rattle.model.specs.Image.{tabulated, pages_below, is_stack_page, stack_byte, start_registers, start_size, image_of}
+use Rattle.user_spec.specs.User.{UserState}
+use Rattle.user_spec.specs.Request.{page_above}
+use Rattle.elf_load.specs.Image.{tabulated, pages_below, is_stack_page, stack_byte, start_registers, start_size, image_of}
 use Rattle.rv_asm.specs.Layout.{start, defined_from}
 use Rattle.rv_asm.specs.Lines.{lines_of}
 use Rattle.rv_asm.specs.Assembly.{bytes_from, bss_of_all}

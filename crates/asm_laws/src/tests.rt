@@ -1,6 +1,6 @@
 // From texts to processes, by the assembler and the loader.
 ghost use Rattle.std.specs.Prelude.{◌≤◌, IfOk};
-ghost use Rattle.model.specs.Image.{start_size};
+ghost use Rattle.elf_load.specs.Image.{start_size};
 
 use call_table::{NoMemory, Text, Words};
 use elf_load::{LoadError, load};

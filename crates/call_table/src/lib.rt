@@ -3,11 +3,14 @@
 
 mod bytes;
 pub mod call;
+pub mod error;
 mod files;
+pub mod limit;
 mod list;
 mod memory;
 mod process;
 mod request;
+pub mod signal;
 mod table;
 mod text;
 
@@ -18,8 +21,7 @@ pub use memory::NoMemory;
 pub use process::{End, Entry, PidState, Replies, Reply3, Statuses};
 pub use request::{Answer, Kind, Need, Request, Taken};
 pub use table::{
-    FRAME_SIZE, NAME_LOOK, RIGHT_READ, RIGHT_RUN, RIGHT_WRITE, TRANSFER_LIMIT, is_local, is_signal,
-    need_of,
+    FRAME_SIZE, NAME_LOOK, RIGHT_READ, RIGHT_RUN, RIGHT_WRITE, is_local, is_signal, need_of,
 };
 pub use text::{Text, Words};
 

@@ -3,7 +3,11 @@ ghost use Rattle.std.specs.Prelude.{◌≡◌};
 ghost use Rattle.call_table.specs.Calls.{need_of, readable, writable, is_site_local, is_signal_number};
 
 use crate::call::{BRK, EXIT, GETPID, OPEN, PIPE, READ, SIGRETURN, UNLINK, WAIT, WRITE, YIELD};
+use crate::limit::TRANSFER_BYTES;
 use crate::request::Need;
+use crate::signal::{
+    SIGCHLD, SIGILL, SIGINT, SIGKILL, SIGPIPE, SIGSEGV, SIGTERM, SIGTRAP, SIGUSR1, SIGUSR2, SIGXCPU,
+};
 
 /// The right to read memory, as a bit of a page's rights.
 pub const RIGHT_READ: u8 = 4;
@@ -12,8 +16,6 @@ pub const RIGHT_WRITE: u8 = 2;
 /// The right to run memory, as a bit of a page's rights.
 pub const RIGHT_RUN: u8 = 1;
 
-/// The most bytes that one read or write moves.
-pub const TRANSFER_LIMIT: u32 = 4096;
 /// The most bytes of a name that are looked at: one more than a name may have.
 pub const NAME_LOOK: u32 = 65;
 /// The bytes of a signal frame: pc, 31 registers and the mask, four bytes each.
@@ -48,8 +50,8 @@ pub fn need_of(number: u32, args: &[u32; 6], sp: u32) -> Option<Need>
         WAIT if args[0] == 0 => None,
         WAIT => Some(writable(args[0], 4)),
         OPEN | UNLINK => Some(readable(args[0], args[1].min(NAME_LOOK))),
-        READ => Some(writable(args[1], args[2].min(TRANSFER_LIMIT))),
-        WRITE => Some(readable(args[1], args[2].min(TRANSFER_LIMIT))),
+        READ => Some(writable(args[1], args[2].min(TRANSFER_BYTES))),
+        WRITE => Some(readable(args[1], args[2].min(TRANSFER_BYTES))),
         PIPE => Some(writable(args[0], 8)),
         SIGRETURN => Some(readable(sp, FRAME_SIZE)),
         _ => None,
@@ -63,9 +65,31 @@ pub fn is_local(number: u32) -> bool
     number == GETPID || number == BRK || number < EXIT || YIELD < number
 }
 
+fn is_known(signal: u8) -> bool
+    ensures { result ≡ is_signal_number signal }
+{
+    matches!(
+        signal,
+        SIGINT
+            | SIGILL
+            | SIGTRAP
+            | SIGKILL
+            | SIGUSR1
+            | SIGSEGV
+            | SIGUSR2
+            | SIGPIPE
+            | SIGTERM
+            | SIGCHLD
+            | SIGXCPU
+    )
+}
+
 /// Whether a number is a signal's.
 pub fn is_signal(number: u32) -> bool
     ensures { result ≡ is_signal_number number }
 {
-    matches!(number, 2 | 4 | 5 | 9..=13 | 15 | 17 | 24)
+    match u8::try_from(number) {
+        Ok(signal) => is_known(signal),
+        Err(_) => false,
+    }
 }

@@ -2,8 +2,8 @@
 use Rattle.std.proofs.Common.{◌≡◌, ℕ, zero, suc, ◌+◌, ◌*◌, ◌<◌, ◌≤◌, List, [], ◌∷◌, refl, ap, ◌∙◌, sym, arith, Bool, true, false, cond, ◌&&◌, nat_le, nat_lt, length, drop, get_or}
 use Rattle.std.proofs.lemmas.Bool.Decides.{nat_tests}
 use Rattle.std.proofs.lemmas.List.{drop_more}
-use Rattle.model.specs.declared.image.Header.{Header}
-use Rattle.model.specs.Image.{is_load, end_of, contains, segment_byte, placed_byte}
+use Rattle.elf_load.specs.declared.image.Header.{Header}
+use Rattle.elf_load.specs.Image.{is_load, end_of, contains, segment_byte, placed_byte}
 use Rattle.elf_load.specs.Parts.{covers, IsSeenFrom}
 
 pub seen_whole : (hs : List Header) (page : ℕ) → IsSeenFrom hs page 0

@@ -3,8 +3,8 @@ use Rattle.std.proofs.Common.{◌≡◌, ℕ, zero, suc, ◌+◌, ◌-◌, ◌*�
 use Rattle.std.proofs.lemmas.Bool.Decides.{nat_tests}
 use Rattle.std.specs.List.{list_any}
 use Rattle.std.proofs.lemmas.List.{at_drop_more, at_drop_all}
-use Rattle.model.specs.declared.image.Header.{Header}
-use Rattle.model.specs.Image.{header_at, headers_from, is_segment, is_out_of_range, end_of, greatest_end}
+use Rattle.elf_load.specs.declared.image.Header.{Header}
+use Rattle.elf_load.specs.Image.{header_at, headers_from, is_segment, is_out_of_range, end_of, greatest_end}
 
 pub headers_none : (file : List ℕ) (at : ℕ) → [] ≡ headers_from file at 0
 unfolding headers_from

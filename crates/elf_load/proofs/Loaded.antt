@@ -7,8 +7,8 @@ use Rattle.std.specs.FinMap as map
 use Rattle.std.proofs.lemmas.Bool.Decides.{leb_tells, nat_tests}
 use Rattle.std.proofs.lemmas.List.{length-replicate, get_or_append_left, get_or-append_right, get_or_past, get_or-replicate}
 use Rattle.page_set.specs.Pages.{Page, PageMap}
-use Rattle.model.specs.Image.{words_bytes, words_start, address_table, table_start, stack_byte, start_size, grants_execute, is_bad_entry, image_or}
-use Rattle.model.specs.User.{UserState}
+use Rattle.elf_load.specs.Image.{words_bytes, words_start, address_table, table_start, stack_byte, start_size, grants_execute, is_bad_entry, image_or}
+use Rattle.user_spec.specs.User.{UserState}
 use Rattle.elf_load.specs.declared.fault.LoadError.{LoadError}
 use Rattle.elf_load.specs.Faults.{Loads}
 use Rattle.elf_load.specs.Parts.{byte_from, stack_bytes}

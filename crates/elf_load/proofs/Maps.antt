@@ -5,7 +5,7 @@ use Rattle.std.specs.Cmp.{nat_cmp_total}
 use Rattle.std.specs.FinMap as map
 use Rattle.std.proofs.lemmas.Bool.Decides.{nat_tests, eqb_tells}
 use Rattle.page_set.specs.Pages.{Page, PageMap}
-use Rattle.model.specs.Image.{with_some_page, pages_below, tabulated}
+use Rattle.elf_load.specs.Image.{with_some_page, pages_below, tabulated}
 
 -- the key of an insertion, and the other keys
 pub get_inserted : (m : PageMap) (k : ℕ) (p : Page) → map.get (map.insert m k p) k ≡ Some p

@@ -2,7 +2,7 @@
 use Rattle.std.proofs.Common.{◌≡◌, ℕ, zero, suc, ◌+◌, ◌*◌, ◌<◌, ◌≤◌, List, [], ◌∷◌, refl, ap, ◌∙◌, sym, arith, length, take, drop, get_or, drop-cons, slice_index}
 use Rattle.page_set.specs.Pages.{little}
 use Rattle.byteorder.specs.Endian.{little_from, little_number}
-use Rattle.model.specs.Image.{number_at}
+use Rattle.elf_load.specs.Image.{number_at}
 
 -- the number in the n bytes from place i
 little_is : (n i : ℕ) (xs : List ℕ) → i + n ≤ length xs → little_from i n xs ≡ little (take n (drop i xs))

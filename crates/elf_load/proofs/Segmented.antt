@@ -8,9 +8,9 @@ use Rattle.std.proofs.lemmas.List.{take_all}
 use Rattle.std.proofs.lemmas.List.Folds.{list_any_more, list_any_at}
 use Rattle.std.proofs.lemmas.Bool.Decides.{eqb_tells, nat_tests}
 use Rattle.page_set.specs.Pages.{Page, PageMap}
-use Rattle.model.specs.declared.image.Header.{Header}
-use Rattle.model.specs.Request.{page_above}
-use Rattle.model.specs.Image.{is_segment, end_of, touches, touched, is_stack_page, is_start_page, is_out_of_range, start_page, pages_below}
+use Rattle.elf_load.specs.declared.image.Header.{Header}
+use Rattle.user_spec.specs.Request.{page_above}
+use Rattle.elf_load.specs.Image.{is_segment, end_of, touches, touched, is_stack_page, is_start_page, is_out_of_range, start_page, pages_below}
 use Rattle.elf_load.specs.Parts.{from_to, IsPart, Added, IsWhole}
 use Rattle.elf_load.proofs.Maps.{get_below, get_above}
 

@@ -3,8 +3,8 @@ use Rattle.std.proofs.Common.{◌≡◌, ◌≢◌, ℕ, zero, suc, ◌+◌, ◌
 use Rattle.std.proofs.lemmas.List.{at_drop_more, at_drop_all, get_or-drop}
 use Rattle.std.proofs.lemmas.Nat.{or_lt}
 use Rattle.std.proofs.lemmas.Bool.Decides.{nat_tests}
-use Rattle.model.specs.declared.image.Header.{Header}
-use Rattle.model.specs.Image.{is_load, end_of, contains, segment_byte, placed_byte, touches, page_rights}
+use Rattle.elf_load.specs.declared.image.Header.{Header}
+use Rattle.elf_load.specs.Image.{is_load, end_of, contains, segment_byte, placed_byte, touches, page_rights}
 use Rattle.elf_load.specs.Parts.{after_write, byte_from}
 use Rattle.elf_load.proofs.Runs.{part_byte, cond_same}
 

@@ -2,7 +2,7 @@
 use Rattle.std.proofs.Common.{◌≡◌, ℕ, zero, suc, ◌+◌, ◌-◌, ◌*◌, ◌/◌, ◌%◌, ◌^◌, ◌<◌, ◌≤◌, List, [], ◌∷◌, ◌++◌, refl, ap, ◌∙◌, sym, arith, length, drop, get_or, append_assoc, length-append, append-nil}
 use Rattle.std.proofs.lemmas.List.{at_drop_more, at_drop_all}
 use Rattle.std.specs.Int.{w32, to_le_bytes}
-use Rattle.model.specs.Image.{words_bytes, words_start, address_table, table_start, start_size}
+use Rattle.elf_load.specs.Image.{words_bytes, words_start, address_table, table_start, start_size}
 
 length_front : (w : List ℕ) (ws : List (List ℕ)) → length (words_bytes (w ∷ ws)) ≡ length w + 1 + length (words_bytes ws)
 length_front w ws = length-append (w ++ 0 ∷ []) (words_bytes ws) ∙ ap (λ n. n + length (words_bytes ws)) (length-append w (0 ∷ []))

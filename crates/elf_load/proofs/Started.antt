@@ -5,8 +5,8 @@ use Rattle.std.proofs.lemmas.Bool.Decides.{eqb_tells, nat_tests}
 use Rattle.std.specs.FinMap as map
 use Rattle.std.proofs.lemmas.List.{append-nil, drop_all, length-replicate}
 use Rattle.page_set.specs.Pages.{Page, PageMap, zero_page, changed_page, page_with_part, with_part}
-use Rattle.model.specs.Image.{pages_below, is_start_page, start_page, placed_byte, page_rights, stack_rights, tabulated}
-use Rattle.model.specs.declared.image.Header.{Header}
+use Rattle.elf_load.specs.Image.{pages_below, is_start_page, start_page, placed_byte, page_rights, stack_rights, tabulated}
+use Rattle.elf_load.specs.declared.image.Header.{Header}
 use Rattle.elf_load.specs.Parts.{from_to, is_page, IsPart, Added, IsWhole}
 use Rattle.elf_load.proofs.Maps.{get_inserted, get_inserted_other, len_inserted, part_len, tabulated_is}
 

@@ -1,6 +1,6 @@
 -- The numbers of the faults, and what a load's answer tells.
 use Rattle.std.specs.Prelude.{ℕ, ◌≡◌, Result, Ok, Err}
-use Rattle.model.specs.User.{UserState}
+use Rattle.user_spec.specs.User.{UserState}
 use Rattle.elf_load.specs.declared.fault.ImageFault.{ImageFault}
 use Rattle.elf_load.specs.declared.fault.ImageFault.TheVariants.{Short, NotElf32Le, NotExec, NotRiscv, Flags, Header, Dynamic, Segment, Range, TooManyPages, Entry}
 use Rattle.elf_load.specs.declared.fault.LoadError.{LoadError}

@@ -2,8 +2,8 @@
 use Rattle.std.specs.Prelude.{ℕ, ◌+◌, ◌-◌, ◌*◌, ◌<◌, ◌≤◌, ◌≡◌, ◌⊎◌, ◌%◌, ◌^◌, List, ◌++◌, length, drop, Bool, true, nat_le, nat_lt, ◌==◌, ◌&&◌, if◌then◌else◌, slice_index, replicate, Option, None}
 use Rattle.std.specs.FinMap as map
 use Rattle.page_set.specs.Pages.{PageMap, Page}
-use Rattle.model.specs.Image.{is_load, end_of, placed_byte, words_start, address_table, words_bytes, pages_below}
-use Rattle.model.specs.declared.image.Header.{Header}
+use Rattle.elf_load.specs.Image.{is_load, end_of, placed_byte, words_start, address_table, words_bytes, pages_below}
+use Rattle.elf_load.specs.declared.image.Header.{Header}
 use Rattle.elf_load.specs.declared.fault.ImageFault.TheVariants.{TooManyPages}
 use Rattle.elf_load.specs.declared.fault.LoadError.{LoadError}
 use Rattle.elf_load.specs.declared.fault.LoadError.TheVariants.{Image, NoMemory}

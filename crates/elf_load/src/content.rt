@@ -1,10 +1,10 @@
 // What one page starts from: its bytes and its rights.
 ghost use Rattle.std.specs.Prelude.{◌≡◌, ◌≤◌, ◌<◌, ◌+◌, ◌*◌, ◌^◌, ◌%◌, ℕ, bit_or, length, take, drop, slice_index, if◌then◌else◌};
-ghost use Rattle.model.specs.Image.{contains, segment_byte, placed_byte, touches, page_rights, stack_rights};
+ghost use Rattle.elf_load.specs.Image.{contains, segment_byte, placed_byte, touches, page_rights, stack_rights};
 ghost use Rattle.elf_load.specs.Parts.{after_write, byte_from, covers, IsSeenFrom};
 
 use crate::header::{end_of, is_load, is_segment};
-use model::image::Header;
+use crate::image::Header;
 
 pub const PAGE_SIZE: usize = 4096;
 

@@ -2,13 +2,13 @@
 ghost use Rattle.std.specs.Prelude.{◌≡◌, ◌<◌, ◌≤◌, ◌+◌, ◌*◌, ◌%◌, ◌^◌, false, IfOk, IfNone, length};
 ghost use Rattle.std.specs.List.{list_any};
 ghost use Rattle.std.specs.Option.{option_map};
-ghost use Rattle.model.specs.Image.{number_at, entry_of, table_at, header_count, header_at, headers_from, headers_of, is_load, is_dynamic, is_segment, is_bad_table, header_fault, field_fault, is_elf, base_of, is_out_of_file, is_out_of_range, segment_fault, greatest_end, end_of};
+ghost use Rattle.elf_load.specs.Image.{number_at, entry_of, table_at, header_count, header_at, headers_from, headers_of, is_load, is_dynamic, is_segment, is_bad_table, header_fault, field_fault, is_elf, base_of, is_out_of_file, is_out_of_range, segment_fault, greatest_end, end_of};
 ghost use Rattle.elf_load.specs.Faults.{fault_number};
 
 use crate::fault::ImageFault;
+use crate::image::Header;
 use byteorder::{ByteOrder, LittleEndian};
 use call_table::NoMemory;
-use model::image::Header;
 use std::alloc::Global;
 
 /// How an ELF file of 32 bits begins that is little endian: the magic number, the class, the order of bytes, the version.

@@ -4,6 +4,7 @@
 mod content;
 mod fault;
 mod header;
+pub mod image;
 mod loader;
 mod stack;
 mod start;

@@ -3,14 +3,14 @@ ghost use Rattle.std.specs.Prelude.{◌≡◌, ◌≤◌, ◌+◌, ◌*◌, ◌<
 ghost use Rattle.std.specs.List.{list_any};
 ghost use Rattle.std.specs.Option.{option_or};
 ghost use Rattle.std.specs.FinMap as map;
-ghost use Rattle.model.specs.Image.{start_size, header_count, table_at, headers_of, is_out_of_range, entry_of, is_bad_entry, segment_fault, page_fault, start_page, stack_byte, start_pages, start_user, image_or, image_of};
+ghost use Rattle.elf_load.specs.Image.{start_size, header_count, table_at, headers_of, is_out_of_range, entry_of, is_bad_entry, segment_fault, page_fault, start_page, stack_byte, start_pages, start_user, image_or, image_of};
 ghost use Rattle.elf_load.specs.Faults.{Loads};
 ghost use Rattle.elf_load.specs.Parts.{IsWhole, IsFull};
 
 use crate::fault::{ImageFault, LoadError};
+use crate::image::Header;
 use crate::{header, stack, start};
 use call_table::Words;
-use model::image::Header;
 use page_set::Pages;
 use std::alloc::Global;
 use user_ctx::User;

@@ -1,7 +1,7 @@
 // The start stack: the words of the line, and the table of their addresses.
 ghost use Rattle.std.specs.Prelude.{◌≡◌, ◌≤◌, ◌<◌, ◌+◌, ◌-◌, ◌^◌, ◌++◌, IfOk, OnOk, length};
 ghost use Rattle.std.specs.Int.{w32, to_le_bytes};
-ghost use Rattle.model.specs.Image.{words_bytes, words_start, address_table, table_start, start_size};
+ghost use Rattle.elf_load.specs.Image.{words_bytes, words_start, address_table, table_start, start_size};
 ghost use Rattle.elf_load.specs.Parts.{stack_bytes};
 
 use call_table::{NoMemory, Words};

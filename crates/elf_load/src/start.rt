@@ -2,13 +2,13 @@
 ghost use Rattle.std.specs.Prelude.{◌≡◌, ◌≤◌, ◌<◌, ◌+◌, ◌*◌, ◌/◌, ◌^◌, ℕ, true, false, None, MatchResult, OnOk};
 ghost use Rattle.std.specs.List.{list_any};
 ghost use Rattle.std.specs.FinMap as map;
-ghost use Rattle.model.specs.Image.{touches, touched, is_start_page, is_out_of_range, start_page};
+ghost use Rattle.elf_load.specs.Image.{touches, touched, is_start_page, is_out_of_range, start_page};
 ghost use Rattle.elf_load.specs.Parts.{byte_from, from_to, is_page, IsPart, Added, IsFull, IsWhole};
 
 use crate::content::{PAGE_SIZE, page_bytes, page_rights};
 use crate::fault::{ImageFault, LoadError};
 use crate::header::{end_of, is_segment};
-use model::image::Header;
+use crate::image::Header;
 use page_set::Pages;
 use std::alloc::Global;
 

@@ -1,5 +1,5 @@
 ghost use Rattle.std.specs.Prelude.{◌≤◌, ◌<◌, ◌+◌, ◌^◌, IfOk};
-ghost use Rattle.model.specs.Image.{start_size};
+ghost use Rattle.elf_load.specs.Image.{start_size};
 
 use super::*;
 use crate::{header, loader, stack};

@@ -1,7 +1,7 @@
 -- All descriptors of a process are closed, one after the other.
 use Rattle.std.proofs.Common.{◌≡◌, ◌+◌, ◌-◌, ◌<◌, ◌≤◌, ℕ, zero, suc, refl, ap, ◌∙◌, arith}
 use Rattle.fd_table.specs.Descriptors.{Processes}
-use Rattle.model.specs.Io.{IoState, close_result, closed_from, descriptor_count}
+use Rattle.kernel_spec.specs.Io.{IoState, close_result, closed_from, descriptor_count}
 use Rattle.home_kernel.specs.Rules.{AreKept}
 
 pub descriptors : descriptor_count ≡ 16

@@ -8,8 +8,8 @@ use Rattle.call_table.specs.declared.process.End.{End}
 use Rattle.id_table.specs.Places.{at_id}
 use Rattle.fd_table.specs.Descriptors.{FdTable, launched}
 use Rattle.fd_table.proofs.EndLemmas.{at_launched, some_launched, length-launched}
-use Rattle.model.specs.Io.{IoState}
-use Rattle.model.specs.Kernel.{KernelState, Input}
+use Rattle.kernel_spec.specs.Io.{IoState}
+use Rattle.kernel_spec.specs.Kernel.{KernelState, Input}
 use Rattle.home_kernel.specs.Rules.{IsKernel, AreKept, launched_io}
 use Rattle.home_kernel.specs.Serving.{Ends, has_room, IsLive}
 

@@ -9,8 +9,8 @@ use Rattle.fd_table.specs.Descriptors.{FdTable, slots_at, free_count, counted, e
 use Rattle.fd_table.specs.declared.description.Target.{Target}
 use Rattle.fd_table.specs.declared.description.Target.TheVariants.{TermIn, TermOut, File, ReadEnd, WriteEnd}
 use Rattle.fd_table.proofs.EndLemmas.{HasTerminals, ends_gone, end_count_added, end_count_sought, end_count_closed_file, end_count_most, sought_targets, terminals_added, terminals_closed}
-use Rattle.model.specs.Errors.{EMFILE, ENFILE}
-use Rattle.model.specs.Io.{room_error, truncated_files, has_flag, after_last}
+use Rattle.call_table.specs.declared.error.TheConstants.{EMFILE, ENFILE}
+use Rattle.kernel_spec.specs.Io.{room_error, truncated_files, has_flag, after_last}
 use Rattle.home_kernel.specs.Rules.{IsIo, HaveHolders, IsHeldOnce}
 
 terminals : (files : FileTable) (fds : FdTable) → IsIo files fds → HasTerminals fds.descriptions

@@ -2,8 +2,8 @@
 use Rattle.std.proofs.Common.{◌≡◌, Option, Some, None, ap, sym, ◌∙◌}
 use Rattle.std.specs.Option.{option_map}
 use Rattle.call_table.specs.declared.request.Answer.{Answer}
-use Rattle.model.specs.Io.{IoState, IoDone}
-use Rattle.model.specs.Kernel.{KernelState, Called, answers_io}
+use Rattle.kernel_spec.specs.Io.{IoState, IoDone}
+use Rattle.kernel_spec.specs.Kernel.{KernelState, Called, answers_io}
 use Rattle.home_kernel.specs.Serving.{IoCalls, Calls}
 
 pub io_lifted : (k : KernelState) (given : Option Answer) (call : Option IoDone) (io : IoState) → IoCalls given call k.io io → Calls given (option_map (answers_io k) call) k (record k { io = io })

@@ -5,8 +5,8 @@ use Rattle.fs_memory.specs.Files.{FileTable, holders_of}
 use Rattle.fd_table.specs.Descriptors.{FdTable, Processes, end_count, target_of, launched, sought}
 use Rattle.fd_table.specs.declared.description.Target.{Target}
 use Rattle.fd_table.specs.declared.description.Target.TheVariants.{TermIn, TermOut, File}
-use Rattle.model.specs.Io.{IoState}
-use Rattle.model.specs.Kernel.{KernelState}
+use Rattle.kernel_spec.specs.Io.{IoState}
+use Rattle.kernel_spec.specs.Kernel.{KernelState}
 
 abbrev pub launched_io : IoState → ℕ → IoState
 launched_io io pid = record io { fds = launched io.fds pid }

@@ -2,10 +2,10 @@
 use Rattle.std.specs.Prelude.{◌≡◌, ℕ, List, Option, Some, None, Bool, true, false, ◌&&◌, nat_lt, count_by, is_none, length}
 use Rattle.call_table.specs.declared.process.End.{End}
 use Rattle.call_table.specs.declared.request.Answer.{Answer}
-use Rattle.model.specs.Io.{IoState, IoDone}
-use Rattle.model.specs.Kernel.{KernelState, Input, Called, value_answer, with_process}
-use Rattle.model.specs.Calls.{is_built}
-use Rattle.model.specs.Machine.{at_pid}
+use Rattle.kernel_spec.specs.Io.{IoState, IoDone}
+use Rattle.kernel_spec.specs.Kernel.{KernelState, Input, Called, value_answer, with_process}
+use Rattle.kernel_spec.specs.Calls.{is_built}
+use Rattle.one_node.specs.Machine.{at_pid}
 use Rattle.home_kernel.specs.declared.kernel.Served.{Served}
 use Rattle.home_kernel.specs.declared.kernel.Served.TheVariants.{Blocks, NotBuilt, Done}
 

@@ -1,7 +1,7 @@
 // Answers of calls.
 ghost use Rattle.std.specs.Prelude.{◌≡◌, ◌≤◌, length};
-ghost use Rattle.model.specs.Kernel.{value_answer};
-ghost use Rattle.model.specs.Calls.{bytes_answer};
+ghost use Rattle.kernel_spec.specs.Kernel.{value_answer};
+ghost use Rattle.kernel_spec.specs.Calls.{bytes_answer};
 
 use call_table::{Answer, Bytes, Kind};
 use std::alloc::Global;

@@ -1,8 +1,8 @@
 // The flags of an open.
 ghost use Rattle.std.specs.Prelude.{◌≡◌, ◌<◌, ◌≤◌};
-ghost use Rattle.model.specs.Io.{has_flag, are_flags, flags_error};
+ghost use Rattle.kernel_spec.specs.Io.{has_flag, are_flags, flags_error};
 
-use crate::errors::EINVAL;
+use call_table::error::EINVAL;
 
 pub const READ: u32 = 1;
 
@@ -38,5 +38,5 @@ pub fn flags_error(flags: u32) -> Option<i32>
     if are_flags(flags) {
         return None;
     }
-    Some(-EINVAL)
+    Some(EINVAL)
 }

@@ -3,16 +3,16 @@ ghost use Rattle.std.specs.Prelude.{◌≡◌, ◌<◌, ◌≤◌, ◌+◌, leng
 ghost use Rattle.id_table.specs.Places.{at_id};
 ghost use Rattle.fs_memory.specs.Files.{id_called, fitting, named_files};
 ghost use Rattle.fd_table.specs.Descriptors.{description_of, look_at};
-ghost use Rattle.model.specs.Io.{IoState, IoDone, no_files, room_error, truncated_files, after_last, open_found, open_absent, open_called, open_result, close_result, all_closed, seek_result, seek_to, seek_in, dup_result, unlink_result};
-ghost use Rattle.model.specs.Calls.{file_part, with_write, io_row};
+ghost use Rattle.kernel_spec.specs.Io.{IoState, IoDone, no_files, room_error, truncated_files, after_last, open_found, open_absent, open_called, open_result, close_result, all_closed, seek_result, seek_to, seek_in, dup_result, unlink_result};
+ghost use Rattle.kernel_spec.specs.Calls.{file_part, with_write, io_row};
 ghost use Rattle.home_kernel.specs.Rules.{launched_io, sought_io, AreKept, HaveHolders, IsHeldOnce};
 ghost use Rattle.home_kernel.specs.Serving.{IoCalls};
 
 use crate::answers::value_answer;
-use crate::errors::{EBADF, EEXIST, EINVAL, EMFILE, ENFILE, ENOENT, ENOSPC, ESPIPE};
 use crate::flags::{CREATE, EXCLUSIVE, TRUNCATE, flags_error, has_flag};
 use crate::names::name_error;
 use crate::places::place_of;
+use call_table::error::{EBADF, EEXIST, EINVAL, EMFILE, ENFILE, ENOENT, ENOSPC, ESPIPE};
 use call_table::{Answer, Bytes, NamedFiles, NoMemory};
 use fd_table::{Fds, Look, Target};
 use fs_memory::Files;
@@ -33,8 +33,8 @@ pub struct Io {
 }
 
 impl Model for Io {
-    ghost use Rattle.model.specs.Io.{IoState};
-    ghost use Rattle.model.specs.Kernel.{coded_io};
+    ghost use Rattle.kernel_spec.specs.Io.{IoState};
+    ghost use Rattle.kernel_spec.specs.Kernel.{coded_io};
     ghost use Rattle.home_kernel.specs.Rules.{IsIo};
 
     ghost Value = { IoState };
@@ -52,10 +52,10 @@ fn room_error(fds: &Fds, pid: u32) -> Option<i32>
     ensures { result ≡ room_error fds.now pid }
 {
     if fds.free_fds(pid) == 0 {
-        return Some(-EMFILE);
+        return Some(EMFILE);
     }
     if fds.descriptions() >= MOST_DESCRIPTIONS {
-        return Some(-ENFILE);
+        return Some(ENFILE);
     }
     None
 }
@@ -120,7 +120,7 @@ impl Io {
         ensures kept { AreKept self.old.fds.processes self.new.fds.processes }
     {
         if has_flag(flags, EXCLUSIVE) {
-            return Ok(-EEXIST);
+            return Ok(EEXIST);
         }
         let rights = (flags % 4) as u8;
         let fd = self.fds.add(pid, Target::File(id), rights)?;
@@ -139,11 +139,11 @@ impl Io {
         ensures kept { AreKept self.old.fds.processes self.new.fds.processes }
     {
         if !has_flag(flags, CREATE) {
-            return Ok(-ENOENT);
+            return Ok(ENOENT);
         }
         let places = self.files.places();
         let Some(id) = self.files.create(name)? else {
-            return Ok(-ENOSPC);
+            return Ok(ENOSPC);
         };
         let rights = (flags % 4) as u8;
         match self.fds.add(pid, Target::File(id), rights) {
@@ -192,7 +192,7 @@ impl Io {
         ensures kept { AreKept self.old.fds.processes self.new.fds.processes }
     {
         if self.fds.look(pid, fd).is_none() {
-            return -EBADF;
+            return EBADF;
         }
         let gone = self.fds.close(pid, fd);
         release(&mut self.files, gone);
@@ -216,14 +216,14 @@ impl Io {
         ensures kept { AreKept self.old.fds.processes self.new.fds.processes }
     {
         let Target::File(id) = look.target else {
-            return -ESPIPE;
+            return ESPIPE;
         };
         match place_of(whence, look.offset, self.files.len(id), off) {
             Some(place) => {
                 self.fds.seek(pid, fd, place);
                 place as i32
             }
-            None => -EINVAL,
+            None => EINVAL,
         }
     }
 
@@ -234,7 +234,7 @@ impl Io {
     {
         match self.fds.look(pid, fd) {
             Some(look) => self.seek_in(pid, fd, look, off, whence),
-            None => -EBADF,
+            None => EBADF,
         }
     }
 
@@ -244,11 +244,11 @@ impl Io {
         ensures kept { AreKept self.old.fds.processes self.new.fds.processes }
     {
         if self.fds.look(pid, fd).is_none() {
-            return -EBADF;
+            return EBADF;
         }
         match self.fds.dup(pid, fd) {
             Some(new) => new as i32,
-            None => -EMFILE,
+            None => EMFILE,
         }
     }
 
@@ -260,7 +260,7 @@ impl Io {
         if let Some(error) = name_error(len, name) {
             return error;
         }
-        if self.files.unlink(name) { 0 } else { -ENOENT }
+        if self.files.unlink(name) { 0 } else { ENOENT }
     }
 
     /// What a descriptor stands for. None exactly where the process has no such descriptor.

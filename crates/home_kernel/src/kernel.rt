@@ -4,17 +4,17 @@ ghost use Rattle.std.specs.List.{list_any};
 ghost use Rattle.std.specs.Option.{option_map};
 ghost use Rattle.fs_memory.specs.Files.{named_files};
 ghost use Rattle.fd_table.specs.Descriptors.{look_at};
-ghost use Rattle.model.specs.Kernel.{KernelState, no_process, answers, answers_io, with_end, fed};
-ghost use Rattle.model.specs.Calls.{call_result, io_row, is_built, read_input, read_result, write_file, write_terminal, write_result};
-ghost use Rattle.model.specs.Machine.{at_pid, end_of};
+ghost use Rattle.kernel_spec.specs.Kernel.{KernelState, no_process, answers, answers_io, with_end, fed};
+ghost use Rattle.kernel_spec.specs.Calls.{call_result, io_row, is_built, read_input, read_result, write_file, write_terminal, write_result};
+ghost use Rattle.one_node.specs.Machine.{at_pid, end_of};
 ghost use Rattle.home_kernel.specs.Serving.{Calls, Serves, Launches, has_room, is_live, IsLive};
 
 use crate::answers::{bytes_answer, value_answer};
-use crate::errors::{EBADF, EFBIG};
 use crate::io::Io;
 use crate::places::FILE_BYTES;
 use crate::terminal::show;
 use crate::typed::Typed;
+use call_table::error::{EBADF, EFBIG};
 use call_table::{Answer, Bytes, End, NamedFiles, NoMemory, Request};
 use fd_table::{Look, Target};
 use std::alloc::Global;
@@ -50,7 +50,7 @@ pub struct Kernel {
 }
 
 impl Model for Kernel {
-    ghost use Rattle.model.specs.Kernel.{KernelState, coded_kernel};
+    ghost use Rattle.kernel_spec.specs.Kernel.{KernelState, coded_kernel};
     ghost use Rattle.home_kernel.specs.Rules.{IsKernel};
     ghost use Rattle.home_kernel.specs.Serving.{kernel_of};
 
@@ -161,10 +161,10 @@ impl Kernel {
         ensures len { length self.new.ends ≡ length self.old.ends }
     {
         let Some(look) = self.io.look(pid, fd) else {
-            return Ok(Some(value_answer(alloc, -EBADF)));
+            return Ok(Some(value_answer(alloc, EBADF)));
         };
         if look.rights % 2 != 1 {
-            return Ok(Some(value_answer(alloc, -EBADF)));
+            return Ok(Some(value_answer(alloc, EBADF)));
         }
         if len == 0 {
             return Ok(Some(value_answer(alloc, 0)));
@@ -178,7 +178,7 @@ impl Kernel {
                 Ok(answer) => return Ok(answer),
                 Err(e) => return Err(e),
             },
-            Target::TermOut => Ok(Some(value_answer(alloc, -EBADF))),
+            Target::TermOut => Ok(Some(value_answer(alloc, EBADF))),
             Target::ReadEnd(_) => Ok(None),
             Target::WriteEnd(_) => Ok(None),
         }
@@ -200,7 +200,7 @@ impl Kernel {
         ensures len { length self.new.ends ≡ length self.old.ends }
     {
         if look.offset >= FILE_BYTES {
-            return Ok(-EFBIG);
+            return Ok(EFBIG);
         }
         let count = self.io.write(pid, fd, look, id, bytes)?;
         Ok(count as i32)
@@ -231,10 +231,10 @@ impl Kernel {
         ensures len { length self.new.ends ≡ length self.old.ends }
     {
         let Some(look) = self.io.look(pid, fd) else {
-            return Ok(Some(value_answer(alloc, -EBADF)));
+            return Ok(Some(value_answer(alloc, EBADF)));
         };
         if look.rights / 2 % 2 != 1 {
-            return Ok(Some(value_answer(alloc, -EBADF)));
+            return Ok(Some(value_answer(alloc, EBADF)));
         }
         if bytes.is_empty() {
             return Ok(Some(value_answer(alloc, 0)));
@@ -248,7 +248,7 @@ impl Kernel {
                 let value = self.write_terminal(bytes)?;
                 Ok(Some(value_answer(alloc, value)))
             }
-            Target::TermIn => Ok(Some(value_answer(alloc, -EBADF))),
+            Target::TermIn => Ok(Some(value_answer(alloc, EBADF))),
             Target::ReadEnd(_) => Ok(None),
             Target::WriteEnd(_) => Ok(None),
         }
@@ -274,7 +274,7 @@ impl Kernel {
     }
 
     /// A call by its number: its answer, None where it blocks or is not built.
-    #[tactic(auto, unfolding(model::specs::Calls::call_row))]
+    #[tactic(auto, unfolding(kernel_spec::specs::Calls::call_row))]
     fn call(
         &mut self,
         alloc: Global,

@@ -2,7 +2,6 @@
 #![tactic(auto)]
 
 mod answers;
-mod errors;
 mod flags;
 mod io;
 mod kernel;

@@ -1,9 +1,9 @@
 // The check of a name.
 ghost use Rattle.std.specs.Prelude.{◌≡◌};
 ghost use Rattle.std.specs.List.{list_all};
-ghost use Rattle.model.specs.Io.{is_name_byte, name_error};
+ghost use Rattle.kernel_spec.specs.Io.{is_name_byte, name_error};
 
-use crate::errors::{EINVAL, ENAMETOOLONG, ENOENT};
+use call_table::error::{EINVAL, ENAMETOOLONG, ENOENT};
 
 /// The most bytes of a name.
 const NAME_BYTES: u32 = 64;
@@ -25,13 +25,13 @@ pub fn name_error(len: u32, name: &[u8]) -> Option<i32>
     ensures { result ≡ name_error len name.now }
 {
     if len > NAME_BYTES {
-        return Some(-ENAMETOOLONG);
+        return Some(ENAMETOOLONG);
     }
     if len == 0 {
-        return Some(-ENOENT);
+        return Some(ENOENT);
     }
     if are_name_bytes(name) {
         return None;
     }
-    Some(-EINVAL)
+    Some(EINVAL)
 }

@@ -1,6 +1,6 @@
 // Where a seek leads.
 ghost use Rattle.std.specs.Prelude.{◌≡◌, ◌≤◌, IfSome};
-ghost use Rattle.model.specs.Io.{place_from, in_file, base_of, place_of};
+ghost use Rattle.kernel_spec.specs.Io.{place_from, in_file, base_of, place_of};
 
 /// The most bytes of a file.
 pub const FILE_BYTES: u32 = 1_048_576;

@@ -1,11 +1,11 @@
 // The terminal's output.
 ghost use Rattle.std.specs.Prelude.{◌≡◌, ◌≤◌, ◌^◌, length, IfOk, OnErr};
-ghost use Rattle.model.specs.Io.{IoState};
-ghost use Rattle.model.specs.Kernel.{Input, answers};
-ghost use Rattle.model.specs.Calls.{write_terminal};
+ghost use Rattle.kernel_spec.specs.Io.{IoState};
+ghost use Rattle.kernel_spec.specs.Kernel.{Input, answers};
+ghost use Rattle.kernel_spec.specs.Calls.{write_terminal};
 ghost use Rattle.home_kernel.specs.Serving.{Ends, kernel_of};
 
-use crate::errors::ENOSPC;
+use call_table::error::ENOSPC;
 use call_table::{Bytes, NoMemory};
 
 /// The terminal's output holds at most so many bytes.
@@ -20,7 +20,7 @@ pub fn show(terminal: &mut Bytes, bytes: &[u8]) -> Result<i32, NoMemory>
 {
     let room = TERMINAL_BYTES - terminal.len();
     if room == 0 {
-        return Ok(-ENOSPC);
+        return Ok(ENOSPC);
     }
     let count = bytes.len().min(room);
     terminal.push_slice(&bytes[..count])?;

@@ -1,7 +1,7 @@
 // What is typed at the terminal.
 ghost use Rattle.std.specs.Prelude.{◌≡◌, ◌≤◌, true, IfOk, OnOk, OnErr, length};
-ghost use Rattle.model.specs.Kernel.{Input, no_input, fed};
-ghost use Rattle.model.specs.Calls.{typed, untyped};
+ghost use Rattle.kernel_spec.specs.Kernel.{Input, no_input, fed};
+ghost use Rattle.kernel_spec.specs.Calls.{typed, untyped};
 
 use call_table::{Bytes, NoMemory};
 use std::alloc::Global;
@@ -21,7 +21,7 @@ pub struct Typed {
 
 impl Model for Typed {
     ghost use Rattle.std.specs.Prelude.{◌≤◌, length, drop};
-    ghost use Rattle.model.specs.Kernel.{Input, coded_input};
+    ghost use Rattle.kernel_spec.specs.Kernel.{Input, coded_input};
 
     ghost Value = { Input };
 

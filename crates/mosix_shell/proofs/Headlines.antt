@@ -2,14 +2,14 @@
 use Rattle.std.proofs.Common.{◌≡◌, ℕ, ◌≤◌, List, [], ◌∷◌, reverse, refl, ap, ◌∙◌, sym, subst, arith, Option, Some, true, false, cond, nat_eq, Bool}
 use Rattle.node_event.specs.declared.event.Event.{Event}
 use Rattle.node_event.specs.declared.script.ScriptLine.{ScriptLine}
-use Rattle.model.specs.User.{UserState}
-use Rattle.model.specs.Machine.{MachineState, play}
-use Rattle.model.specs.Schedule.{schedule}
-use Rattle.model.specs.History.{machine_of, AreStamped}
-use Rattle.model.specs.ScriptLaw.{ScriptLaw, command_count}
-use Rattle.model.specs.OnceLaw.{OnceLaw, AreGivenBack, phase_of}
-use Rattle.model.specs.declared.phase.Phase.{Phase}
-use Rattle.model.specs.declared.phase.Phase.TheVariants.{Goes}
+use Rattle.user_spec.specs.User.{UserState}
+use Rattle.one_node.specs.Machine.{MachineState, play}
+use Rattle.mosix_shell.specs.Schedule.{schedule}
+use Rattle.mosix_shell.specs.History.{machine_of, AreStamped}
+use Rattle.mosix_shell.specs.ScriptLaw.{ScriptLaw, command_count}
+use Rattle.mosix_shell.specs.OnceLaw.{OnceLaw, AreGivenBack, phase_of}
+use Rattle.mosix_shell.specs.declared.phase.Phase.{Phase}
+use Rattle.mosix_shell.specs.declared.phase.Phase.TheVariants.{Goes}
 use Rattle.mosix_shell.specs.Script.{script_of}
 use Rattle.mosix_shell.specs.Turns.{Moment, Story, story_of, first_event, first_moment, quantum_steps, later_events}
 use Rattle.mosix_shell.specs.Running.{IsRunOfStory, Finishes}

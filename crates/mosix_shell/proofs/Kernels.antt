@@ -7,19 +7,19 @@ use Rattle.call_table.specs.declared.process.End.TheVariants.{Exit}
 use Rattle.call_table.specs.declared.request.Request.{Request}
 use Rattle.node_event.specs.declared.event.Way.{Way}
 use Rattle.node_event.specs.declared.event.Way.TheVariants.{Did, Broke, Fell, Paused}
-use Rattle.model.specs.User.{UserState}
-use Rattle.model.specs.Request.{call_request}
-use Rattle.model.specs.Advance.{Went, Done, AtCall, Faults, advance}
+use Rattle.user_spec.specs.User.{UserState}
+use Rattle.user_spec.specs.Request.{call_request}
+use Rattle.user_spec.specs.Advance.{Went, Done, AtCall, Faults, advance}
 use Rattle.fs_memory.specs.Files.{fitting}
 use Rattle.fd_table.specs.Descriptors.{look_at}
 use Rattle.fd_table.specs.declared.description.Look.{Look}
 use Rattle.fd_table.specs.declared.description.Target.{Target}
 use Rattle.fd_table.specs.declared.description.Target.TheVariants.{TermIn, TermOut, File, ReadEnd, WriteEnd}
-use Rattle.model.specs.Errors.{EBADF, EFBIG, ENOSPC}
-use Rattle.model.specs.Io.{IoState, IoDone}
-use Rattle.model.specs.Kernel.{KernelState, Called, answers, answers_io, exited}
-use Rattle.model.specs.Calls.{call_result, call_row, io_row, read_typed, read_result, read_in, read_at, can_read, write_result, write_in, write_at, can_write, with_write, room_of, shown}
-use Rattle.model.specs.Machine.{MachineState, live_user, done_of, fallen, fallen_at, Served, served, served_at, answered, with_served}
+use Rattle.call_table.specs.declared.error.TheConstants.{EBADF, EFBIG, ENOSPC}
+use Rattle.kernel_spec.specs.Io.{IoState, IoDone}
+use Rattle.kernel_spec.specs.Kernel.{KernelState, Called, answers, answers_io, exited}
+use Rattle.kernel_spec.specs.Calls.{call_result, call_row, io_row, read_typed, read_result, read_in, read_at, can_read, write_result, write_in, write_at, can_write, with_write, room_of, shown}
+use Rattle.one_node.specs.Machine.{MachineState, live_user, done_of, fallen, fallen_at, Served, served, served_at, answered, with_served}
 use Rattle.mosix_shell.specs.Turns.{served_machine}
 
 abbrev CalledKeeps : Option Called → ℕ → Type 0

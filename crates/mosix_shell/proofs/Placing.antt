@@ -8,11 +8,11 @@ use Rattle.node_event.specs.declared.event.What.{What}
 use Rattle.node_event.specs.declared.event.What.TheVariants.{Steps, Sent, Served, Got}
 use Rattle.node_event.specs.declared.event.Way.{Way}
 use Rattle.node_event.specs.declared.script.ScriptLine.{ScriptLine}
-use Rattle.model.specs.User.{UserState}
-use Rattle.model.specs.Machine.{MachineState, at_pid, if_live, live_user, end_of, ended_of, start}
-use Rattle.model.specs.History.{machine_of}
-use Rattle.model.specs.declared.phase.Phase.{Phase}
-use Rattle.model.specs.declared.phase.Phase.TheVariants.{Goes, Waits, IsServed}
+use Rattle.user_spec.specs.User.{UserState}
+use Rattle.one_node.specs.Machine.{MachineState, at_pid, if_live, live_user, end_of, ended_of, start}
+use Rattle.mosix_shell.specs.History.{machine_of}
+use Rattle.mosix_shell.specs.declared.phase.Phase.{Phase}
+use Rattle.mosix_shell.specs.declared.phase.Phase.TheVariants.{Goes, Waits, IsServed}
 use Rattle.mosix_shell.specs.Turns.{Moment, event_after, first_event, first_moment}
 use Rattle.mosix_shell.specs.OnePlace.{Place, At, without, is_pid, places_after, places, ArePlaced, PlacedIn, OnePlace}
 

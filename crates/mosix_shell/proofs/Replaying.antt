@@ -3,11 +3,11 @@ use Rattle.std.proofs.Common.{◌≡◌, ℕ, List, [], ◌∷◌, ◌++◌, rev
 use mathlib.Core.List.{reverse-cons}
 use Rattle.node_event.specs.declared.event.Event.{Event}
 use Rattle.node_event.specs.declared.script.ScriptLine.{ScriptLine}
-use Rattle.model.specs.User.{UserState}
-use Rattle.model.specs.Machine.{MachineState, start, played, play, and_then, machine_step}
-use Rattle.model.specs.Schedule.{schedule, event_steps}
-use Rattle.model.specs.History.{machine_of}
-use Rattle.model.specs.declared.step.Step.{Step}
+use Rattle.user_spec.specs.User.{UserState}
+use Rattle.one_node.specs.Machine.{MachineState, start, played, play, and_then, machine_step}
+use Rattle.mosix_shell.specs.Schedule.{schedule, event_steps}
+use Rattle.mosix_shell.specs.History.{machine_of}
+use Rattle.one_node.specs.declared.step.Step.{Step}
 
 and_then-assoc : (o : Option MachineState) (f g : MachineState → Option MachineState) → and_then (and_then o f) g ≡ and_then o (λ m. and_then (f m) g)
 and_then-assoc None f g = refl

@@ -12,18 +12,18 @@ use Rattle.node_event.specs.declared.event.What.TheVariants.{Command, Steps, Sen
 use Rattle.node_event.specs.declared.event.Way.{Way}
 use Rattle.node_event.specs.declared.event.Way.TheVariants.{Did, Broke, Fell, Paused}
 use Rattle.node_event.specs.declared.script.ScriptLine.{ScriptLine}
-use Rattle.model.specs.User.{UserState}
-use Rattle.model.specs.Advance.{Went, Done, AtCall, Faults, advance, advanced, Walk, quantum_of, request_of, asked_number}
-use Rattle.model.specs.Kernel.{KernelState, Called}
-use Rattle.model.specs.Machine.{MachineState, start, live_user, ended_of, with_user, done_of, fallen, played, machine_step, and_then, if_live, steps_of, stepped}
-use Rattle.model.specs.Schedule.{event_steps, served_step}
-use Rattle.model.specs.History.{machine_of, AreStamped}
-use Rattle.model.specs.ScriptLaw.{ScriptLaw, ScriptAt, command_count, commands_in}
-use Rattle.model.specs.OnceLaw.{OnceLaw, OnceAt, OnceBetween, phase_of, phase_after, number_asked, value_gained, way_for, IsWay, IsWaitingFor, IsQuantum, ServedAs, GotAs}
-use Rattle.model.specs.declared.phase.Phase.{Phase}
-use Rattle.model.specs.declared.phase.Phase.TheVariants.{Goes, Waits, IsServed}
-use Rattle.model.specs.declared.step.Step.{Step}
-use Rattle.model.specs.declared.step.Step.TheVariants as step
+use Rattle.user_spec.specs.User.{UserState}
+use Rattle.user_spec.specs.Advance.{Went, Done, AtCall, Faults, advance, advanced, Walk, quantum_of, request_of, asked_number}
+use Rattle.kernel_spec.specs.Kernel.{KernelState, Called}
+use Rattle.one_node.specs.Machine.{MachineState, start, live_user, ended_of, with_user, done_of, fallen, played, machine_step, and_then, if_live, steps_of, stepped}
+use Rattle.mosix_shell.specs.Schedule.{event_steps, served_step}
+use Rattle.mosix_shell.specs.History.{machine_of, AreStamped}
+use Rattle.mosix_shell.specs.ScriptLaw.{ScriptLaw, ScriptAt, command_count, commands_in}
+use Rattle.mosix_shell.specs.OnceLaw.{OnceLaw, OnceAt, OnceBetween, phase_of, phase_after, number_asked, value_gained, way_for, IsWay, IsWaitingFor, IsQuantum, ServedAs, GotAs}
+use Rattle.mosix_shell.specs.declared.phase.Phase.{Phase}
+use Rattle.mosix_shell.specs.declared.phase.Phase.TheVariants.{Goes, Waits, IsServed}
+use Rattle.one_node.specs.declared.step.Step.{Step}
+use Rattle.one_node.specs.declared.step.Step.TheVariants as step
 use Rattle.mosix_shell.specs.Turns.{Moment, Turned, Makes, IsOver, IsUnbuilt, turn_of, turn_in, go_turn, going_turn, sent_turn, steps_turn, serve_turn, served_turn, served_what, served_machine, got_turn, event_after, first_event, first_moment}
 use Rattle.mosix_shell.specs.Script.{script_of}
 use Rattle.mosix_shell.proofs.Walks.{IsWalk, quantum_is}

@@ -6,11 +6,11 @@ use Rattle.call_table.specs.declared.process.End.{End}
 use Rattle.node_event.specs.declared.event.Event.{Event}
 use Rattle.node_event.specs.declared.event.What.{What}
 use Rattle.node_event.specs.declared.event.What.TheVariants as whats
-use Rattle.model.specs.User.{UserState}
-use Rattle.model.specs.Advance.{Walk, quantum_of, request_of, asked_number}
-use Rattle.model.specs.Machine.{MachineState, live_user, with_user, if_live}
-use Rattle.model.specs.declared.phase.Phase.{Phase}
-use Rattle.model.specs.declared.phase.Phase.TheVariants.{Goes, Waits, IsServed}
+use Rattle.user_spec.specs.User.{UserState}
+use Rattle.user_spec.specs.Advance.{Walk, quantum_of, request_of, asked_number}
+use Rattle.one_node.specs.Machine.{MachineState, live_user, with_user, if_live}
+use Rattle.mosix_shell.specs.declared.phase.Phase.{Phase}
+use Rattle.mosix_shell.specs.declared.phase.Phase.TheVariants.{Goes, Waits, IsServed}
 use Rattle.one_node.specs.declared.going.Ran.TheVariants as ran
 use Rattle.one_node.specs.Going as going
 use Rattle.mosix_shell.specs.Turns.{Moment, Turned, Makes, IsOver, IsUnbuilt, turn_of, go_turn, going_turn, sent_turn, steps_turn, event_after, Story, story, story_of, told_by, is_over, quantum_steps, later_events, first_event, first_moment}

@@ -5,9 +5,9 @@ use Rattle.call_table.specs.declared.files.Named.{Named}
 use Rattle.call_table.specs.declared.process.PidState.{PidState}
 use Rattle.outside.specs.Outside.{NamedFile, file_named, Loaded, Appends}
 use Rattle.outside.specs.declared.traits.Failed.{Failed}
-use Rattle.model.specs.User.{UserState}
-use Rattle.model.specs.Image.{image_of}
-use Rattle.model.specs.Report.{report_text}
+use Rattle.user_spec.specs.User.{UserState}
+use Rattle.elf_load.specs.Image.{image_of}
+use Rattle.mosix_shell.specs.Report.{report_text}
 use Rattle.mosix_shell.specs.Turns.{story_of, ends}
 use Rattle.mosix_shell.specs.Script.{script_of}
 use Rattle.mosix_shell.specs.Running.{IsRunOfStory}

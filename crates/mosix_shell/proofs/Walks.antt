@@ -2,10 +2,10 @@
 use Rattle.std.proofs.Common.{◌≡◌, ◌≢◌, ℕ, zero, suc, ◌+◌, ◌-◌, ◌<◌, ◌≤◌, refl, ap, ◌∙◌, sym, subst, arith, Option, Some, None, Bool, true, false, nat_le, cond, ◌&&◌, ◌||◌, ◌==◌, ◌^◌, not, slice_index}
 use Rattle.std.proofs.lemmas.Bool.Decides.{nat_tests}
 use Rattle.std.proofs.lemmas.Option.{none-some, same_Some}
-use Rattle.model.specs.User.{UserState}
-use Rattle.model.specs.Advance.{Went, Done, AtCall, Faults, advance, advanced, on_done, Walk, walked, walk_on, stays, one_more, quantum_of, grows, pauses, stops_at, user_after, is_at_ecall, core_of, counted, went_of, at_call}
-use Rattle.model.specs.Instruction.{Ran, RanTo, RanAtCall, RanFaults, one_instruction}
-use Rattle.model.specs.Request.{number_of, args_of, break_maps, has_buffer, local_call}
+use Rattle.user_spec.specs.User.{UserState}
+use Rattle.user_spec.specs.Advance.{Went, Done, AtCall, Faults, advance, advanced, on_done, Walk, walked, walk_on, stays, one_more, quantum_of, grows, pauses, stops_at, user_after, is_at_ecall, core_of, counted, went_of, at_call}
+use Rattle.user_spec.specs.Instruction.{Ran, RanTo, RanAtCall, RanFaults, one_instruction}
+use Rattle.user_spec.specs.Request.{number_of, args_of, break_maps, has_buffer, local_call}
 use Rattle.call_table.specs.Calls.{is_site_local}
 
 -- ---- the steps of a walk are steps

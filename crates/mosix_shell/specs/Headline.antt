@@ -2,12 +2,12 @@
 use Rattle.std.specs.Prelude.{◌≡◌, ℕ, List, [], ◌∷◌, reverse, Option, Some, true}
 use Rattle.node_event.specs.declared.script.ScriptLine.{ScriptLine}
 use Rattle.fs_memory.specs.Files.{named_files}
-use Rattle.model.specs.User.{UserState}
-use Rattle.model.specs.Machine.{MachineState, play, statuses, have_ended}
-use Rattle.model.specs.Schedule.{schedule}
-use Rattle.model.specs.History.{AreStamped}
-use Rattle.model.specs.ScriptLaw.{ScriptLaw, command_count}
-use Rattle.model.specs.OnceLaw.{OnceLaw, AreGivenBack}
+use Rattle.user_spec.specs.User.{UserState}
+use Rattle.one_node.specs.Machine.{MachineState, play, statuses, have_ended}
+use Rattle.mosix_shell.specs.Schedule.{schedule}
+use Rattle.mosix_shell.specs.History.{AreStamped}
+use Rattle.mosix_shell.specs.ScriptLaw.{ScriptLaw, command_count}
+use Rattle.mosix_shell.specs.OnceLaw.{OnceLaw, AreGivenBack}
 use Rattle.mosix_shell.specs.Script.{script_of}
 use Rattle.mosix_shell.specs.OnePlace.{OnePlace}
 use Rattle.mosix_shell.specs.declared.run.Run.{Run}

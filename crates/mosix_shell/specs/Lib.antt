@@ -1,3 +1,8 @@
+pub mod Schedule
+pub mod History
+pub mod ScriptLaw
+pub mod OnceLaw
+pub mod Report
 pub mod Words
 pub mod Script
 pub mod Turns

@@ -5,9 +5,9 @@ use Rattle.node_event.specs.declared.event.Event.{Event}
 use Rattle.node_event.specs.declared.event.What.{What}
 use Rattle.node_event.specs.declared.event.What.TheVariants.{Command, Got, Depart, Land}
 use Rattle.node_event.specs.declared.script.ScriptLine.{ScriptLine}
-use Rattle.model.specs.User.{UserState}
-use Rattle.model.specs.Machine.{MachineState, at_pid}
-use Rattle.model.specs.History.{machine_of}
+use Rattle.user_spec.specs.User.{UserState}
+use Rattle.one_node.specs.Machine.{MachineState, at_pid}
+use Rattle.mosix_shell.specs.History.{machine_of}
 
 -- a place: at a node, or on the way from one to another
 pub data Place : Type 0 where

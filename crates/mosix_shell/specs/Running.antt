@@ -2,9 +2,9 @@
 use Rattle.std.specs.Prelude.{◌≡◌, ℕ, List, [], reverse, Option, Some, None, Bool, true, false}
 use Rattle.node_event.specs.declared.event.Event.{Event}
 use Rattle.fs_memory.specs.Files.{named_files}
-use Rattle.model.specs.User.{UserState}
-use Rattle.model.specs.Machine.{MachineState, statuses}
-use Rattle.model.specs.declared.phase.Phase.{Phase}
+use Rattle.user_spec.specs.User.{UserState}
+use Rattle.one_node.specs.Machine.{MachineState, statuses}
+use Rattle.mosix_shell.specs.declared.phase.Phase.{Phase}
 use Rattle.mosix_shell.specs.Turns.{Moment, Turned, Makes, IsOver, IsUnbuilt, Story, story_of}
 use Rattle.mosix_shell.specs.declared.run.Turn.{Turn}
 use Rattle.mosix_shell.specs.declared.run.Turn.TheVariants as turns

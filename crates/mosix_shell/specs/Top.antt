@@ -3,9 +3,9 @@ use Rattle.std.specs.Prelude.{◌≡◌, ◌≢◌, ℕ, ◌+◌, ◌++◌, List
 use Rattle.std.specs.Fmt.{decimal}
 use Rattle.outside.specs.Outside.{NamedFile, file_named, Appends}
 use Rattle.outside.specs.declared.traits.Failed.{Failed}
-use Rattle.model.specs.User.{UserState}
-use Rattle.model.specs.Image.{image_of}
-use Rattle.model.specs.Report.{report_text}
+use Rattle.user_spec.specs.User.{UserState}
+use Rattle.elf_load.specs.Image.{image_of}
+use Rattle.mosix_shell.specs.Report.{report_text}
 use Rattle.mosix_shell.specs.Script.{name_in, script_of}
 use Rattle.mosix_shell.specs.Turns.{ends, quantum_steps}
 use Rattle.mosix_shell.specs.Headline.{Replays, IsLawful}

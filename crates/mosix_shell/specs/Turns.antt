@@ -5,13 +5,13 @@ use Rattle.node_event.specs.declared.event.What.{What}
 use Rattle.node_event.specs.declared.event.What.TheVariants.{Command, Steps, Sent, Served, Got}
 use Rattle.node_event.specs.declared.event.Way.{Way}
 use Rattle.node_event.specs.declared.event.Way.TheVariants.{Did, Broke, Fell, Paused}
-use Rattle.model.specs.User.{UserState}
-use Rattle.model.specs.Advance.{Walk, quantum_of, request_of, asked_number}
-use Rattle.model.specs.Kernel.{no_process, with_process}
-use Rattle.model.specs.Machine.{MachineState, live_user, ended_of, with_user, done_of, fallen}
-use Rattle.model.specs.declared.phase.Phase.{Phase}
-use Rattle.model.specs.declared.phase.Phase.TheVariants.{Goes, Waits, IsServed}
-use Rattle.model.specs.OnceLaw.{value_gained, way_for}
+use Rattle.user_spec.specs.User.{UserState}
+use Rattle.user_spec.specs.Advance.{Walk, quantum_of, request_of, asked_number}
+use Rattle.kernel_spec.specs.Kernel.{no_process, with_process}
+use Rattle.one_node.specs.Machine.{MachineState, live_user, ended_of, with_user, done_of, fallen}
+use Rattle.mosix_shell.specs.declared.phase.Phase.{Phase}
+use Rattle.mosix_shell.specs.declared.phase.Phase.TheVariants.{Goes, Waits, IsServed}
+use Rattle.mosix_shell.specs.OnceLaw.{value_gained, way_for}
 
 -- the machine, and where process 1 is between its calls
 pub record Moment : Type 0 where

@@ -3,6 +3,7 @@
 
 pub mod assembling;
 pub mod mosix;
+pub mod phase;
 pub mod report;
 pub mod run;
 pub mod script;

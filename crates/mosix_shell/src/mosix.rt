@@ -1,7 +1,7 @@
 // The top call.
 ghost use Rattle.std.specs.Prelude.{◌≡◌, ◌≢◌, ◌↔◌, ◌⊎◌, ◌≤◌, ℕ, List, Some, None, Ok, Err, IfSome, IfOk, IfErr, false, true, IsTrue, is_some, length, ◌∷◌, [], if◌then◌else◌, ◌&&◌};
 ghost use Rattle.outside.specs.Outside.{NamedFile, Rose};
-ghost use Rattle.model.specs.User.{UserState};
+ghost use Rattle.user_spec.specs.User.{UserState};
 ghost use Rattle.mosix_shell.specs.Words.{are_built, is_asm_words, is_run_words};
 ghost use Rattle.mosix_shell.specs.Top.{IsRunOf, IsNamed, IsUnnamed, IsLoadedFrom, IsImaged, IsInner, IsReading, status_of, has_run, is_source_fault, text_of, why_of, IsVerdict, IsRefused, WritesLine, WritesRun};
 ghost use Rattle.mosix_shell.specs.Running.{RunsTo};

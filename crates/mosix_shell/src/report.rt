@@ -2,7 +2,7 @@
 ghost use Rattle.std.specs.Prelude.{◌≡◌, ◌++◌, ◌+◌, ◌∷◌, [], List, ℕ, length, IfOk, OnOk, take, drop, codes, ◌^◌, ◌<◌};
 ghost use Rattle.std.specs.List.{flat_map};
 ghost use Rattle.outside.specs.Outside.{Appends, HasCause};
-ghost use Rattle.model.specs.Report.{terminal_line, status_line, status_lines, length_text, file_line, file_text, file_texts, report_text};
+ghost use Rattle.mosix_shell.specs.Report.{terminal_line, status_line, status_lines, length_text, file_line, file_text, file_texts, report_text};
 
 use call_table::{Bytes, ListOf, Named, NoMemory, PidState};
 use outside::{Failed, Sink};

@@ -6,12 +6,12 @@ use Rattle.call_table.specs.declared.process.Reply3.{Reply3}
 use Rattle.call_table.specs.declared.request.Request.{Request}
 use Rattle.call_table.specs.declared.request.Answer.{Answer}
 use Rattle.std.specs.Option.{option_map, option_and_then}
-use Rattle.model.specs.User.{UserState}
-use Rattle.model.specs.Request.{call_request, returned}
-use Rattle.model.specs.Advance.{Went, Done, AtCall, Faults, advance, request_of, asked_at, grows}
-use Rattle.model.specs.Kernel.{KernelState, Called, with_process, with_end}
-use Rattle.model.specs.Calls.{call_result}
-use Rattle.model.specs.Machine.{MachineState, at_pid, if_live, live_user, with_user, Served, served, served_at, answered, with_served, done_of, fallen, fallen_at, launched, can_launch, next_pid}
+use Rattle.user_spec.specs.User.{UserState}
+use Rattle.user_spec.specs.Request.{call_request, returned}
+use Rattle.user_spec.specs.Advance.{Went, Done, AtCall, Faults, advance, request_of, asked_at, grows}
+use Rattle.kernel_spec.specs.Kernel.{KernelState, Called, with_process, with_end}
+use Rattle.kernel_spec.specs.Calls.{call_result}
+use Rattle.one_node.specs.Machine.{MachineState, at_pid, if_live, live_user, with_user, Served, served, served_at, answered, with_served, done_of, fallen, fallen_at, launched, can_launch, next_pid}
 use Rattle.one_node.specs.declared.going.Ran.{Ran}
 use Rattle.home_kernel.specs.Serving.{IsLive, is_live, is_live_end, Launches}
 use Rattle.one_node.specs.Going.{fault_of, signal_in, Goes, GoesAt, GoesOn, ServesAt}

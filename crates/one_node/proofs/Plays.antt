@@ -1,9 +1,9 @@
 -- One step more.
 use Rattle.std.proofs.Common.{◌≡◌, ℕ, zero, suc, ◌+◌, ◌<◌, List, [], ◌∷◌, ◌++◌, length, take, drop, get_or, slice_get, refl, ap, ◌∙◌, sym, arith, Option, Some, None, ℤ}
 use Rattle.std.proofs.lemmas.List.{take_more, drop_more}
-use Rattle.model.specs.User.{UserState}
-use Rattle.model.specs.Machine.{MachineState, start, played, and_then, machine_step}
-use Rattle.model.specs.declared.step.Step.{Step}
+use Rattle.user_spec.specs.User.{UserState}
+use Rattle.one_node.specs.Machine.{MachineState, start, played, and_then, machine_step}
+use Rattle.one_node.specs.declared.step.Step.{Step}
 use Rattle.one_node.specs.declared.home.Applied.{Applied}
 use Rattle.one_node.specs.declared.home.Applied.TheVariants.{Not, Did}
 use Rattle.one_node.specs.Applying.{AppliedAs}

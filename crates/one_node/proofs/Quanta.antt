@@ -9,10 +9,10 @@ use Rattle.one_node.specs.declared.going.Ran.TheVariants.{Steps, Asks}
 use Rattle.one_node.specs.Going.{Goes, fault_of, signal_in}
 use Rattle.call_table.specs.Calls.{is_site_local}
 use Rattle.call_table.specs.declared.request.Request.{Request}
-use Rattle.model.specs.User.{UserState}
-use Rattle.model.specs.Instruction.{Ran, RanTo, RanAtCall, RanFaults, one_instruction}
-use Rattle.model.specs.Request.{number_of, args_of, break_maps, has_buffer, local_call}
-use Rattle.model.specs.Advance.{Went, Done, AtCall, Faults, advance, advanced, on_done, Walk, walked, walk_on, stays, one_more, quantum_of, grows, user_after, is_at_ecall, core_of, counted, went_of, at_call, request_of, asked_at, asked_number}
+use Rattle.user_spec.specs.User.{UserState}
+use Rattle.user_spec.specs.Instruction.{Ran, RanTo, RanAtCall, RanFaults, one_instruction}
+use Rattle.user_spec.specs.Request.{number_of, args_of, break_maps, has_buffer, local_call}
+use Rattle.user_spec.specs.Advance.{Went, Done, AtCall, Faults, advance, advanced, on_done, Walk, walked, walk_on, stays, one_more, quantum_of, grows, user_after, is_at_ecall, core_of, counted, went_of, at_call, request_of, asked_at, asked_number}
 
 both_first : (a b : Bool) → (a && b) ≡ true → a ≡ true
 both_first true b h = refl

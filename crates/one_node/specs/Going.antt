@@ -2,10 +2,10 @@
 use Rattle.std.specs.Prelude.{◌≡◌, ◌≤◌, ℕ, ◌-◌, ◌==◌, ◌++◌, ◌∷◌, [], List, Option, Some, None, Bool, true, false, ℤ, slice_get, slice_set}
 use Rattle.std.specs.Option.{option_map, option_and_then}
 use Rattle.call_table.specs.declared.process.Reply3.{Reply3}
-use Rattle.model.specs.User.{UserState}
-use Rattle.model.specs.Advance.{Went, Done, AtCall, Faults, advance, quantum_of, request_of, asked_number}
-use Rattle.model.specs.Kernel.{KernelState}
-use Rattle.model.specs.Machine.{MachineState, Served, live_user, with_user}
+use Rattle.user_spec.specs.User.{UserState}
+use Rattle.user_spec.specs.Advance.{Went, Done, AtCall, Faults, advance, quantum_of, request_of, asked_number}
+use Rattle.kernel_spec.specs.Kernel.{KernelState}
+use Rattle.one_node.specs.Machine.{MachineState, Served, live_user, with_user}
 use Rattle.one_node.specs.declared.going.Ran.{Ran}
 use Rattle.one_node.specs.declared.going.Ran.TheVariants.{Steps, Asks}
 

@@ -1,3 +1,4 @@
+pub mod Machine
 pub mod Going
 pub mod Applying
 pub mod Playing

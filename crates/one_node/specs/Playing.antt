@@ -1,9 +1,9 @@
 -- What playing a list of steps tells.
 use Rattle.std.specs.Prelude.{◌≡◌, ℕ, ◌-◌, ◌^◌, List, Option, Some, None, slice_get, take, min}
 use Rattle.fs_memory.specs.Files.{named_files}
-use Rattle.model.specs.User.{UserState}
-use Rattle.model.specs.Machine.{MachineState, machine_step, played, start, statuses}
-use Rattle.model.specs.declared.step.Step.{Step}
+use Rattle.user_spec.specs.User.{UserState}
+use Rattle.one_node.specs.Machine.{MachineState, machine_step, played, start, statuses}
+use Rattle.one_node.specs.declared.step.Step.{Step}
 use Rattle.one_node.specs.declared.home.Outcome.{Outcome}
 use Rattle.one_node.specs.declared.play.PlayFault.{PlayFault}
 use Rattle.one_node.specs.declared.play.PlayFault.TheVariants.{NotEnabled, NoMemory}

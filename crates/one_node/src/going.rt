@@ -1,9 +1,9 @@
 // Calls on the lists that make up the system.
 ghost use Rattle.std.specs.Prelude.{Some, None, IfSome, IsSome, ◌≢◌, ◌≡◌, ◌+◌, ◌-◌, ◌<◌, ◌≤◌, ◌^◌, IfOk, OnErr, OnOk, slice_get, slice_set, length, vec_len};
 ghost use Rattle.std.specs.Option.{option_map, option_and_then};
-ghost use Rattle.model.specs.Advance.{advanced, request_of, asked_number};
-ghost use Rattle.model.specs.Calls.{call_result};
-ghost use Rattle.model.specs.Machine.{Moves, served};
+ghost use Rattle.user_spec.specs.Advance.{advanced, request_of, asked_number};
+ghost use Rattle.kernel_spec.specs.Calls.{call_result};
+ghost use Rattle.one_node.specs.Machine.{Moves, served};
 ghost use Rattle.home_kernel.specs.Serving.{Calls, IsLive};
 ghost use Rattle.one_node.specs.Going.{Goes, GoesAt, fault_of, Serves, ServesAt};
 

@@ -1,16 +1,16 @@
 // The plain system on one node as one value.
 ghost use Rattle.std.specs.Prelude.{◌≢◌, ◌≡◌, ◌+◌, ◌-◌, ◌<◌, ◌≤◌, ◌^◌, Some, None, IfOk, OnOk, slice_get, length, IfSome, is_some, ◌++◌, ◌∷◌, [], true, false, IsTrue, vec_len, if◌then◌else◌};
 ghost use Rattle.fs_memory.specs.Files.{named_files};
-ghost use Rattle.model.specs.Machine.{MachineState, start, launched, steps_of, live_user, done_of, fallen, machine_step, ended_of, statuses, at_pid, Moves};
+ghost use Rattle.one_node.specs.Machine.{MachineState, start, launched, steps_of, live_user, done_of, fallen, machine_step, ended_of, statuses, at_pid, Moves};
 ghost use Rattle.one_node.specs.Going.{GoesOr};
 ghost use Rattle.one_node.specs.Applying.{AppliedAs};
 ghost use Rattle.std.specs.Option.{option_copied};
 
 use crate::going::{Ran, fault_at, go_at, serve_at, steps_at};
 use crate::report::statuses;
+use crate::step::Step;
 use call_table::{Bytes, End, ListOf, NamedFiles, NoMemory, Replies, Reply3, Statuses};
 use home_kernel::Kernel;
-use model::step::Step;
 use std::alloc::Global;
 use std::marker::Model;
 use user_ctx::{User, Users};
@@ -56,7 +56,7 @@ pub struct Home {
 
 impl Model for Home {
     ghost use Rattle.std.specs.Prelude.{◌≡◌, length, vec_len};
-    ghost use Rattle.model.specs.Machine.{MachineState, coded_machine};
+    ghost use Rattle.one_node.specs.Machine.{MachineState, coded_machine};
 
     ghost Value = { MachineState };
 

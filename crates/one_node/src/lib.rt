@@ -5,5 +5,6 @@ pub mod going;
 pub mod home;
 pub mod play;
 mod report;
+pub mod step;
 
-pub use model::step::Step;
+pub use crate::step::Step;

@@ -1,10 +1,10 @@
 // Playing a list of steps from the empty state.
 ghost use Rattle.std.specs.Prelude.{◌≡◌, ◌<◌, Some, None, IfOk, IfErr, length, min, ◌-◌, ◌^◌};
-ghost use Rattle.model.specs.Machine.{play, statuses};
+ghost use Rattle.one_node.specs.Machine.{play, statuses};
 ghost use Rattle.one_node.specs.Playing.{IsOutcomeOf, Fails};
 
 use crate::home::{Applied, Home, Outcome, Setup};
-use model::step::Step;
+use crate::step::Step;
 use std::alloc::Global;
 use thiserror::Error;
 

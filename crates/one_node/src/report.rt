@@ -1,6 +1,6 @@
 // What is told of the processes at the end.
 ghost use Rattle.std.specs.Prelude.{◌≡◌, ◌+◌, ◌<◌, ◌++◌, length, IfOk};
-ghost use Rattle.model.specs.Machine.{state_of, statuses_from};
+ghost use Rattle.one_node.specs.Machine.{state_of, statuses_from};
 
 use call_table::{End, NoMemory, PidState, Statuses};
 use std::alloc::Global;

@@ -2,22 +2,22 @@
 use Rattle.std.proofs.Common.{◌≡◌, ◌≢◌, ℕ, ◌+◌, ◌<◌, ◌≤◌, ◌^◌, List, [], ◌∷◌, refl, ap, ◌∙◌, sym, subst, arith, Option, Some, None, Result, Ok, Err, Bool, true, false, cond, drop}
 use Rattle.std.specs.Prelude.{IsSome}
 use Rattle.call_table.specs.declared.request.Request.{Request}
-use Rattle.model.specs.User.{UserState}
-use Rattle.model.specs.Request.{number_of, asked_args, handed_bytes, returned_pointer, has_frame_room, is_local_call, local_call, call_request, fault_request}
-use Rattle.model.specs.Instruction.{Core, Ran, RanTo, RanAtCall, RanFaults, one_instruction, next_effect, applied, with_loaded, with_stored, load_as, store_as, branch, effect_of, value_of, decoded_effect, fetched_effect}
-use Rattle.model.specs.declared.effect.Effect.{Effect}
-use Rattle.model.specs.declared.effect.Effect.TheVariants.{Sets, Loads, Stores, Calls, Raises}
-use Rattle.model.specs.Advance.{Went, Done, AtCall, Faults, advance, core_of, went_of, at_call, counted, asked_at, request_of}
+use Rattle.user_spec.specs.User.{UserState}
+use Rattle.user_spec.specs.Request.{number_of, asked_args, handed_bytes, returned_pointer, has_frame_room, is_local_call, local_call, call_request, fault_request}
+use Rattle.user_spec.specs.Instruction.{Core, Ran, RanTo, RanAtCall, RanFaults, one_instruction, next_effect, applied, with_loaded, with_stored, load_as, store_as, branch, effect_of, value_of, decoded_effect, fetched_effect}
+use Rattle.user_spec.specs.declared.effect.Effect.{Effect}
+use Rattle.user_spec.specs.declared.effect.Effect.TheVariants.{Sets, Loads, Stores, Calls, Raises}
+use Rattle.user_spec.specs.Advance.{Went, Done, AtCall, Faults, advance, core_of, went_of, at_call, counted, asked_at, request_of}
 use Rattle.user_ctx.specs.Calling.{kind_of, signal_of, AsksBy}
 use Rattle.user_ctx.specs.declared.stop.WordKind.{WordKind}
 use Rattle.std.specs.Prelude.{◌==◌, ◌%◌}
 use Rattle.std.proofs.lemmas.Bool.Decides.{nat_tests}
 use Rattle.page_set.specs.Pages.{loaded}
-use Rattle.model.specs.Words.{sum_of, extended}
-use Rattle.model.specs.declared.effect.Form.{Form}
-use Rattle.model.specs.declared.effect.Width.{Width}
-use Rattle.model.specs.declared.effect.Form.TheVariants.{SignedByte, SignedHalf, Word, Byte, Half}
-use Rattle.model.specs.declared.effect.Width.TheVariants.{One, Two, Four}
+use Rattle.user_spec.specs.Words.{sum_of, extended}
+use Rattle.user_spec.specs.declared.effect.Form.{Form}
+use Rattle.user_spec.specs.declared.effect.Width.{Width}
+use Rattle.user_spec.specs.declared.effect.Form.TheVariants.{SignedByte, SignedHalf, Word, Byte, Half}
+use Rattle.user_spec.specs.declared.effect.Width.TheVariants.{One, Two, Four}
 use Rattle.rv_decode.specs.Instructions.{instruction_of}
 use Rattle.rv_decode.specs.declared.instruction.Instr.{Instr}
 use Rattle.rv_decode.specs.declared.instruction.Instr.TheVariants.{Lui, Auipc, Jal, Jalr, Beq, Bne, Blt, Bge, Bltu, Bgeu, Lb, Lh, Lw, Lbu, Lhu, Sb, Sh, Sw, Addi, Slti, Sltiu, Xori, Ori, Andi, Slli, Srli, Srai, Add, Sub, Sll, Slt, Sltu, Xor, Srl, Sra, Or, And, Fence, Ecall, Ebreak}

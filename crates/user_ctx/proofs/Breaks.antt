@@ -4,8 +4,8 @@ use Rattle.std.proofs.lemmas.Bool.Decides.{nat_tests}
 use Rattle.std.specs.Prelude.{slice_index, ◌==◌}
 use Rattle.std.specs.FinMap as map
 use Rattle.page_set.specs.Pages.{PageMap}
-use Rattle.model.specs.User.{UserState}
-use Rattle.model.specs.Request.{page_above, without_pages, pages_with_break, is_break, break_maps, lacks_page, with_break}
+use Rattle.user_spec.specs.User.{UserState}
+use Rattle.user_spec.specs.Request.{page_above, without_pages, pages_with_break, is_break, break_maps, lacks_page, with_break}
 use Rattle.user_ctx.specs.Heap.{mapped_in, mapped_for}
 use Rattle.user_ctx.proofs.Heaps.{break_len, len_at_least, lacks_tells, broken_same, lacking_all}
 

@@ -3,10 +3,10 @@ use Rattle.std.proofs.Common.{◌≡◌, ◌≢◌, ◌⊎◌, inl, inr, ℕ, ze
 use Rattle.call_table.specs.Calls.{is_call, is_site_local}
 use Rattle.std.proofs.lemmas.Bool.Decides.{nat_tests}
 use Rattle.std.specs.Prelude.{slice_index, ◌==◌}
-use Rattle.model.specs.User.{UserState}
-use Rattle.model.specs.Request.{number_of, args_of, is_break, break_maps, with_break, is_local_call, local_call, with_value, with_brk, has_buffer, pages_with_break, page_above, lacks_page}
-use Rattle.model.specs.Instruction.{Ran, RanTo, RanAtCall, RanFaults, one_instruction}
-use Rattle.model.specs.Advance.{Done, AtCall, Faults, advance, core_of, at_call, counted, grows, is_at_ecall}
+use Rattle.user_spec.specs.User.{UserState}
+use Rattle.user_spec.specs.Request.{number_of, args_of, is_break, break_maps, with_break, is_local_call, local_call, with_value, with_brk, has_buffer, pages_with_break, page_above, lacks_page}
+use Rattle.user_spec.specs.Instruction.{Ran, RanTo, RanAtCall, RanFaults, one_instruction}
+use Rattle.user_spec.specs.Advance.{Done, AtCall, Faults, advance, core_of, at_call, counted, grows, is_at_ecall}
 use Rattle.user_ctx.specs.Stopping.{IsAtEcall}
 use Rattle.user_ctx.specs.Heap.{mapped_for}
 use Rattle.user_ctx.specs.Calling.{IsLocal}

@@ -6,8 +6,8 @@ use Rattle.std.proofs.lemmas.Option.{none-some}
 use Rattle.page_set.specs.Pages.{PageMap, loaded}
 use Rattle.rv_decode.specs.Instructions.{instruction_of}
 use Rattle.rv_decode.specs.declared.instruction.Instr.{Instr}
-use Rattle.model.specs.declared.effect.Width.{Width}
-use Rattle.model.specs.Instruction.{fetched_effect, decoded_effect, effect_of, next_effect, store_as}
+use Rattle.user_spec.specs.declared.effect.Width.{Width}
+use Rattle.user_spec.specs.Instruction.{fetched_effect, decoded_effect, effect_of, next_effect, store_as}
 use Rattle.user_ctx.specs.declared.decoded.Known.{Known}
 use Rattle.user_ctx.specs.Decoded.{known_of, known_at, decoding, IsEmpty, Learns, ForgetsBytes, IsDecoded, IsKnown}
 use Rattle.user_ctx.proofs.Stored.{store_other}

@@ -6,8 +6,8 @@ use Rattle.std.proofs.lemmas.List.{take_more_set, take_all}
 use Rattle.std.proofs.Math.ListN.{get_or-append, length-append}
 use Rattle.std.proofs.Math.Seq.{get_or-append_seam, drop-cons}
 use Rattle.page_set.specs.Pages.{PageMap, flat_at, refusal, wrapped, with_bytes, bytes_4}
-use Rattle.model.specs.Words.{sum_of}
-use Rattle.model.specs.Request.{frame_word, frame_registers, with_words}
+use Rattle.user_spec.specs.Words.{sum_of}
+use Rattle.user_spec.specs.Request.{frame_word, frame_registers, with_words}
 
 none_some : (a : ℕ) → (let o : Option ℕ = None in o ≡ Some a) → ⊥
 none_some a e = cc

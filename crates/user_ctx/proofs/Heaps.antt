@@ -7,8 +7,8 @@ use Rattle.std.specs.Cmp.{nat_cmp_total}
 use Rattle.std.specs.FinMap as map
 use Rattle.std.proofs.lemmas.Bool.Decides.{nat_tests, eqb_tells}
 use Rattle.page_set.specs.Pages.{Page, PageMap, plain_byte, zero_page, changed_page, page_with_rights}
-use Rattle.model.specs.User.{UserState}
-use Rattle.model.specs.Request.{page_above, without_pages, with_heap_page, with_heap_pages, lacks_page, pages_with_break, is_break}
+use Rattle.user_spec.specs.User.{UserState}
+use Rattle.user_spec.specs.Request.{page_above, without_pages, with_heap_page, with_heap_pages, lacks_page, pages_with_break, is_break}
 use Rattle.user_ctx.specs.Heap.{one_if_mapped, mapped_in, with_zeros, with_lacking, broken}
 use Rattle.user_ctx.proofs.Maps.{same, get_removed, get_removed_other, get_inserted_other, heap_page, page_or_zeros, heap_page_is, heap_other, without_in, without_out, without_more, heap_in, heap_out, heap_more, lacking_in, lacking_out, there, all_there}
 

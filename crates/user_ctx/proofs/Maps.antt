@@ -6,7 +6,7 @@ use Rattle.std.specs.Cmp.{nat_cmp_total}
 use Rattle.std.specs.FinMap as map
 use Rattle.std.proofs.lemmas.Bool.Decides.{nat_tests, eqb_tells}
 use Rattle.page_set.specs.Pages.{Page, PageMap, zero_page, page_with_rights, changed_page, plain_byte}
-use Rattle.model.specs.Request.{without_pages, with_heap_page, with_heap_pages, lacks_page}
+use Rattle.user_spec.specs.Request.{without_pages, with_heap_page, with_heap_pages, lacks_page}
 use Rattle.user_ctx.specs.Heap.{one_if_mapped, mapped_in, with_zeros, with_lacking}
 
 -- ---- the key of an insertion or a removal, and the other keys

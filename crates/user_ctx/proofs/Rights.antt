@@ -4,13 +4,13 @@ use Rattle.std.proofs.lemmas.Option.{none-some, same_Some}
 use Rattle.std.proofs.lemmas.Bool.Decides.{eqb_tells}
 use Rattle.std.specs.FinMap as map
 use Rattle.page_set.specs.Pages.{Page, PageMap, page_with_byte, changed_page, with_byte, with_bytes, where_granted, bytes_at, bytes_1, bytes_2, bytes_4, stored}
-use Rattle.model.specs.Words.{sum_of}
-use Rattle.model.specs.Request.{with_words}
-use Rattle.model.specs.Instruction.{Core, Ran, RanTo, RanAtCall, RanFaults, one_instruction, next_effect, applied, with_loaded, with_stored, load_as, store_as, on_ran, ran}
-use Rattle.model.specs.declared.effect.Effect.{Effect}
-use Rattle.model.specs.declared.effect.Effect.TheVariants.{Sets, Loads, Stores, Calls, Raises}
-use Rattle.model.specs.declared.effect.Width.{Width}
-use Rattle.model.specs.declared.effect.Width.TheVariants.{One, Two, Four}
+use Rattle.user_spec.specs.Words.{sum_of}
+use Rattle.user_spec.specs.Request.{with_words}
+use Rattle.user_spec.specs.Instruction.{Core, Ran, RanTo, RanAtCall, RanFaults, one_instruction, next_effect, applied, with_loaded, with_stored, load_as, store_as, on_ran, ran}
+use Rattle.user_spec.specs.declared.effect.Effect.{Effect}
+use Rattle.user_spec.specs.declared.effect.Effect.TheVariants.{Sets, Loads, Stores, Calls, Raises}
+use Rattle.user_spec.specs.declared.effect.Width.{Width}
+use Rattle.user_spec.specs.declared.effect.Width.TheVariants.{One, Two, Four}
 use Rattle.user_ctx.specs.Heap.{rights_at, is_heap_page, IsHeap}
 use Rattle.user_ctx.proofs.Maps.{get_inserted, get_inserted_other}
 

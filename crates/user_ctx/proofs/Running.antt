@@ -1,7 +1,7 @@
 -- Instructions after others.
 use Rattle.std.proofs.Common.{◌≡◌, ℕ, zero, suc, ◌+◌, ap, ◌∙◌, arith, Some}
 use Rattle.std.proofs.lemmas.Option.{none-some, same_Some}
-use Rattle.model.specs.Instruction.{Core, Ran, RanTo, RanAtCall, RanFaults, one_instruction, on_ran, ran}
+use Rattle.user_spec.specs.Instruction.{Core, Ran, RanTo, RanAtCall, RanFaults, one_instruction, on_ran, ran}
 
 on : (r : Ran) (k n : ℕ) (v w : Core) → ((x : Core) → ran k x ≡ Some v → ran (k + n) x ≡ Some w) → on_ran r (ran k) ≡ Some v → on_ran r (ran (k + n)) ≡ Some w
 on (RanTo x) k n v w ih h = ih x h

@@ -4,9 +4,9 @@ use Rattle.std.specs.FinMap as map
 use Rattle.std.proofs.lemmas.Bool.Decides.{eqb_tells}
 use Rattle.std.proofs.lemmas.List.{get_or-set_other}
 use Rattle.page_set.specs.Pages.{Page, PageMap, byte_of, byte_at, bytes_at, with_front, number_of, loaded, page_with_byte, changed_page, with_byte, with_bytes, where_granted, stored, bytes_1, bytes_2, bytes_4}
-use Rattle.model.specs.declared.effect.Width.{Width}
-use Rattle.model.specs.declared.effect.Width.TheVariants.{One, Two, Four}
-use Rattle.model.specs.Instruction.{store_as}
+use Rattle.user_spec.specs.declared.effect.Width.{Width}
+use Rattle.user_spec.specs.declared.effect.Width.TheVariants.{One, Two, Four}
+use Rattle.user_spec.specs.Instruction.{store_as}
 use Rattle.user_ctx.specs.Decoded.{word_of}
 use Rattle.user_ctx.proofs.Maps.{get_inserted, get_inserted_other}
 

@@ -2,10 +2,10 @@
 use Rattle.std.proofs.Common.{◌≡◌, ◌≢◌, ◌⊎◌, inl, inr, ℕ, zero, suc, ◌+◌, ◌-◌, ◌<◌, ◌≤◌, ◌^◌, refl, ap, ◌∙◌, sym, arith, Option, Some, None, Bool, true, false, nat_le, nat_lt, cond, ◌&&◌, not, min}
 use Rattle.std.proofs.lemmas.Option.{none-some, same_Some}
 use Rattle.std.proofs.lemmas.Bool.Decides.{nat_tests, leb_tells}
-use Rattle.model.specs.User.{UserState}
-use Rattle.model.specs.Request.{number_of, args_of, break_maps}
-use Rattle.model.specs.Instruction.{Core, Ran, RanTo, RanAtCall, RanFaults, one_instruction, on_ran, ran}
-use Rattle.model.specs.Advance.{Went, Done, AtCall, Faults, advance, core_of, with_core, went_of, at_call, grows, is_at_ecall, Walk, walked, walk_on, stays, one_more}
+use Rattle.user_spec.specs.User.{UserState}
+use Rattle.user_spec.specs.Request.{number_of, args_of, break_maps}
+use Rattle.user_spec.specs.Instruction.{Core, Ran, RanTo, RanAtCall, RanFaults, one_instruction, on_ran, ran}
+use Rattle.user_spec.specs.Advance.{Went, Done, AtCall, Faults, advance, core_of, with_core, went_of, at_call, grows, is_at_ecall, Walk, walked, walk_on, stays, one_more}
 use Rattle.std.specs.Prelude.{slice_index, ◌==◌}
 use Rattle.user_ctx.specs.declared.stop.Stop.{Stop}
 use Rattle.user_ctx.specs.declared.stop.Stop.TheVariants as stop

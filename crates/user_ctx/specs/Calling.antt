@@ -1,8 +1,8 @@
 -- Calls that end where the process runs.
 use Rattle.std.specs.Prelude.{ℕ, ◌≡◌, true, false, Option, Some, None}
-use Rattle.model.specs.User.{UserState}
-use Rattle.model.specs.Request.{is_break, break_maps, is_local_call, local_call, with_value}
-use Rattle.model.specs.Advance.{advance, AtCall, Faults}
+use Rattle.user_spec.specs.User.{UserState}
+use Rattle.user_spec.specs.Request.{is_break, break_maps, is_local_call, local_call, with_value}
+use Rattle.user_spec.specs.Advance.{advance, AtCall, Faults}
 use Rattle.rv_decode.specs.declared.instruction.Instr.{Instr}
 use Rattle.rv_decode.specs.declared.instruction.Instr.TheVariants.{Ecall, Ebreak}
 use Rattle.user_ctx.specs.declared.stop.WordKind.{WordKind}

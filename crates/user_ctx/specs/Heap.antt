@@ -3,8 +3,8 @@ use Rattle.std.specs.Prelude.{ℕ, zero, suc, ◌+◌, ◌-◌, ◌/◌, ◌%◌
 use Rattle.std.specs.Option.{option_map}
 use Rattle.std.specs.FinMap as map
 use Rattle.page_set.specs.Pages.{PageMap, zero_page}
-use Rattle.model.specs.User.{UserState}
-use Rattle.model.specs.Request.{page_above, without_pages, with_heap_pages}
+use Rattle.user_spec.specs.User.{UserState}
+use Rattle.user_spec.specs.Request.{page_above, without_pages, with_heap_pages}
 
 -- how many of n pages from a page on are mapped
 abbrev pub one_if_mapped : PageMap → ℕ → ℕ

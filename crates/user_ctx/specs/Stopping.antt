@@ -1,9 +1,9 @@
 -- What the answers of a step and of a run tell.
 use Rattle.std.specs.Prelude.{ℕ, ◌≡◌, ◌+◌, ◌<◌, ◌^◌, List, drop, Bool, true, false}
 use Rattle.page_set.specs.Pages.{PageMap}
-use Rattle.model.specs.User.{UserState}
-use Rattle.model.specs.Instruction.{Core, Ran, RanTo, RanAtCall, RanFaults, one_instruction}
-use Rattle.model.specs.Advance as advance
+use Rattle.user_spec.specs.User.{UserState}
+use Rattle.user_spec.specs.Instruction.{Core, Ran, RanTo, RanAtCall, RanFaults, one_instruction}
+use Rattle.user_spec.specs.Advance as advance
 use Rattle.user_ctx.specs.declared.stop.Stop.{Stop}
 use Rattle.user_ctx.specs.declared.stop.Stop.TheVariants.{Went, AtCall, Grows, Fault}
 use Rattle.user_ctx.specs.declared.stop.Outcome.{Outcome}

@@ -1,11 +1,11 @@
 // What each instruction does.
 ghost use Rattle.std.specs.Prelude.{◌≡◌, ◌<◌, ◌∷◌, drop};
-ghost use Rattle.model.specs.User.{with_register};
-ghost use Rattle.model.specs.Words.{is_below, one_if, shifted_left, shifted_right, shifted_signed};
-ghost use Rattle.model.specs.Instruction.{value_of, jump, branch, sets, effect_of};
+ghost use Rattle.user_spec.specs.User.{with_register};
+ghost use Rattle.user_spec.specs.Words.{is_below, one_if, shifted_left, shifted_right, shifted_signed};
+ghost use Rattle.user_spec.specs.Instruction.{value_of, jump, branch, sets, effect_of};
 
-use model::effect::{Effect, Form, Width};
 use rv_decode::{Instr, Register};
+use user_spec::effect::{Effect, Form, Width};
 
 #[inline(always)]
 pub fn register(registers: &[u32; 32], r: Register) -> u32

@@ -2,7 +2,7 @@
 ghost use Rattle.std.specs.Prelude.{◌≡◌, ◌≤◌, ◌∷◌, ◌++◌, [], drop, is_ok, IfOk, slice_index};
 ghost use Rattle.std.specs.Result.{result_unwrap_or};
 ghost use Rattle.page_set.specs.Pages.{flat_at, with_bytes, bytes_4};
-ghost use Rattle.model.specs.Request.{frame_at, has_frame_room, frame_word, frame_registers, with_words};
+ghost use Rattle.user_spec.specs.Request.{frame_at, has_frame_room, frame_word, frame_registers, with_words};
 
 use call_table::{Bytes, NoMemory};
 use page_set::Pages;

@@ -1,7 +1,7 @@
 // The pages of the heap.
 ghost use Rattle.std.specs.Prelude.{◌≡◌, ◌≤◌, ◌+◌, ◌-◌, ◌<◌, ℕ, OnOk, OnErr, None, false};
 ghost use Rattle.std.specs.FinMap as map;
-ghost use Rattle.model.specs.Request.{page_above, without_pages, with_heap_pages, lacks_page};
+ghost use Rattle.user_spec.specs.Request.{page_above, without_pages, with_heap_pages, lacks_page};
 ghost use Rattle.user_ctx.specs.Heap.{one_if_mapped, mapped_in, with_lacking, rights_at};
 
 use call_table::NoMemory;

@@ -1,16 +1,16 @@
 // One instruction, on pc, registers and pages.
 ghost use Rattle.std.specs.Prelude.{ℕ, List, ◌≡◌, ◌∷◌, drop, MatchResult, IsSome, Ok, Err, OnErr};
-ghost use Rattle.model.specs.Words.{sign_filled};
-ghost use Rattle.model.specs.Instruction.{next_effect, load_as, store_as, one_instruction};
+ghost use Rattle.user_spec.specs.Words.{sign_filled};
+ghost use Rattle.user_spec.specs.Instruction.{next_effect, load_as, store_as, one_instruction};
 ghost use Rattle.user_ctx.specs.Stopping.{core, ran_of, OrStays};
 ghost use Rattle.user_ctx.specs.Decoded.{IsKnown, known_at};
 
 use crate::decoded::DecodedWords;
 use crate::effect::{effect, set_register};
 use crate::stop::Outcome;
-use model::effect::{Effect, Form, Width};
 use page_set::{Pages, Refused};
 use rv_decode::decode;
+use user_spec::effect::{Effect, Form, Width};
 
 #[inline(always)]
 fn sign_byte(byte: u8) -> u32

@@ -1,6 +1,6 @@
 // Many instructions, one after another.
 ghost use Rattle.std.specs.Prelude.{◌≡◌, ◌≢◌, ◌≤◌, Some, ◌∷◌, ◌<◌, drop};
-ghost use Rattle.model.specs.Instruction.{one_instruction, ran};
+ghost use Rattle.user_spec.specs.Instruction.{one_instruction, ran};
 ghost use Rattle.user_ctx.specs.Stopping.{core, ran_of};
 
 use crate::decoded::DecodedWords;

@@ -2,9 +2,9 @@
 ghost use Rattle.std.specs.Prelude.{◌≡◌, ◌≢◌, ◌∷◌, [], ◌<◌, ◌≤◌, ◌%◌, ◌^◌, ◌-◌, ◌+◌, true, false, replicate, Ok, Some, IsSome, IfOk, OnOk, OnErr, slice_set, slice_index, nat_lt, min};
 ghost use Rattle.std.specs.FinMap as map;
 ghost use Rattle.page_set.specs.Pages.{with_bytes};
-ghost use Rattle.model.specs.User.{UserState, need_of_user};
-ghost use Rattle.model.specs.Request.{number_of, args_of, stack_pointer, frame_word, frame_registers, buffer_of, buffer_address, has_buffer, has_frame_room, handed_bytes, asked_args, returned_pointer, call_request, fault_request, returned, entered, forked, with_value, with_brk, with_break, is_break, break_maps};
-ghost use Rattle.model.specs.Advance.{Walk, Done, advance, walked, grows, counted, request_of};
+ghost use Rattle.user_spec.specs.User.{UserState, need_of_user};
+ghost use Rattle.user_spec.specs.Request.{number_of, args_of, stack_pointer, frame_word, frame_registers, buffer_of, buffer_address, has_buffer, has_frame_room, handed_bytes, asked_args, returned_pointer, call_request, fault_request, returned, entered, forked, with_value, with_brk, with_break, is_break, break_maps};
+ghost use Rattle.user_spec.specs.Advance.{Walk, Done, advance, walked, grows, counted, request_of};
 ghost use Rattle.user_ctx.specs.Stopping.{StepsTo, StopsAt, Leads, EndsAs, limited, IsAtEcall};
 ghost use Rattle.user_ctx.specs.Calling.{IsPlan, IsLocal, signal_of, AsksBy};
 ghost use Rattle.user_ctx.specs.Heap.{mapped_for};
@@ -59,7 +59,7 @@ impl Model for User {
     ghost use Rattle.std.specs.Prelude.{◌≡◌, ◌∷◌, ◌≤◌, ◌^◌, drop};
     ghost use Rattle.user_ctx.specs.Heap.{IsHeap};
     ghost use Rattle.page_set.specs.Pages.{with_bytes};
-    ghost use Rattle.model.specs.User.{UserState, coded_user};
+    ghost use Rattle.user_spec.specs.User.{UserState, coded_user};
 
     ghost Value = { UserState };
 

@@ -1,5 +1,5 @@
 use Rattle.std.proofs.Common.{◌≡◌, ◌<◌, drop}
-use Rattle.model.specs.Image.{page_rights, stack_rights}
+use Rattle.elf_load.specs.Image.{page_rights, stack_rights}
 use Rattle.elf_load.proofs.content.page_rights.Given as goal
 
 abbrev pub invariant-loop-h : goal.invariant-loop-h

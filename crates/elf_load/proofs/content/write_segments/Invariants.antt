@@ -1,5 +1,5 @@
 use Rattle.std.proofs.Common.{◌≡◌, ℕ, ◌<◌, ◌+◌, ◌*◌, drop, slice_index}
-use Rattle.model.specs.Image.{placed_byte}
+use Rattle.elf_load.specs.Image.{placed_byte}
 use Rattle.elf_load.proofs.content.write_segments.Given as goal
 
 abbrev pub invariant-loop-h : goal.invariant-loop-h

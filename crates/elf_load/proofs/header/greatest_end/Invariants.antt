@@ -1,5 +1,5 @@
 use Rattle.std.proofs.Common.{◌≡◌, ◌<◌, ◌^◌, drop}
-use Rattle.model.specs.Image.{greatest_end}
+use Rattle.elf_load.specs.Image.{greatest_end}
 use Rattle.elf_load.proofs.header.greatest_end.Given as goal
 
 abbrev pub invariant-loop-h : goal.invariant-loop-h

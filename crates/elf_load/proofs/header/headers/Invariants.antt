@@ -1,5 +1,5 @@
 use Rattle.std.proofs.Common.{◌≡◌, vec_len}
-use Rattle.model.specs.Image.{headers_from}
+use Rattle.elf_load.specs.Image.{headers_from}
 use Rattle.elf_load.proofs.header.headers.Given as goal
 
 abbrev pub invariant-loop-i : goal.invariant-loop-i

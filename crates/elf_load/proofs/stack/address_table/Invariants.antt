@@ -1,5 +1,5 @@
 use Rattle.std.proofs.Common.{◌≡◌, ◌+◌, ◌++◌, length, drop}
-use Rattle.model.specs.Image.{words_bytes, address_table}
+use Rattle.elf_load.specs.Image.{words_bytes, address_table}
 use Rattle.elf_load.proofs.stack.address_table.Given as goal
 
 abbrev pub invariant-loop-word : goal.invariant-loop-word

@@ -1,5 +1,5 @@
 use Rattle.std.proofs.Common.{arith, refl, rules, length, ◌≡◌}
-use Rattle.model.specs.Image.{start_page}
+use Rattle.elf_load.specs.Image.{start_page}
 use Rattle.elf_load.specs.Parts.{byte_from}
 use Rattle.elf_load.proofs.Started.{added_now, start_page_is}
 use Rattle.elf_load.proofs.start.add_page.Goals as goal

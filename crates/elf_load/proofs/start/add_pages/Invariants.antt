@@ -1,4 +1,4 @@
-use Rattle.model.specs.Image.{start_page}
+use Rattle.elf_load.specs.Image.{start_page}
 use Rattle.elf_load.specs.Parts.{byte_from, from_to, Added}
 use Rattle.elf_load.proofs.start.add_pages.Given as goal
 

@@ -1,5 +1,5 @@
 use Rattle.std.proofs.Common.{take}
-use Rattle.model.specs.Image.{start_page, touched}
+use Rattle.elf_load.specs.Image.{start_page, touched}
 use Rattle.elf_load.specs.Parts.{byte_from, Added}
 use Rattle.elf_load.proofs.start.add_segments.Given as goal
 

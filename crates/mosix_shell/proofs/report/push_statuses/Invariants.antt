@@ -1,6 +1,6 @@
 use Rattle.std.proofs.Common.{◌≡◌, ◌+◌, ◌++◌, drop}
 use Rattle.std.specs.List.{flat_map}
-use Rattle.model.specs.Report.{status_lines}
+use Rattle.mosix_shell.specs.Report.{status_lines}
 use Rattle.mosix_shell.proofs.report.push_statuses.Given as goal
 
 -- what is made and what is left are what was there and all lines

@@ -1,5 +1,5 @@
 use Rattle.std.proofs.Common.{◌∙◌, ◌+◌, ap, arith, length, reverse, List}
-use Rattle.model.specs.declared.phase.Phase.TheVariants.{Goes}
+use Rattle.mosix_shell.specs.declared.phase.Phase.TheVariants.{Goes}
 use Rattle.mosix_shell.specs.Running.{moment}
 use Rattle.mosix_shell.proofs.Turning.{all_left, over_at, unbuilt_at, late_at, next_at}
 use Rattle.mosix_shell.proofs.run.turns.Goals as goal

@@ -1,5 +1,5 @@
 use Rattle.std.proofs.Common.{◌≡◌, ◌+◌, ◌-◌, length, reverse}
-use Rattle.model.specs.declared.phase.Phase.TheVariants.{Goes}
+use Rattle.mosix_shell.specs.declared.phase.Phase.TheVariants.{Goes}
 use Rattle.mosix_shell.specs.Turns.{story, quantum_steps, later_events}
 use Rattle.mosix_shell.specs.Running.{moment}
 use Rattle.mosix_shell.proofs.run.turns.Given as goal

@@ -1,7 +1,7 @@
 use Rattle.std.proofs.Common.{◌≡◌, ◌∙◌, ap, slice_get, Some, refl, arith}
 use Rattle.std.specs.Option.{option_and_then}
 use Rattle.std.proofs.lemmas.Option.{gets}
-use Rattle.model.specs.Machine.{served}
+use Rattle.one_node.specs.Machine.{served}
 use Rattle.one_node.proofs.going.serve_at.Goals as goal
 
 pub returns-in-Some-clause-ok : goal.returns-in-Some-clause-ok

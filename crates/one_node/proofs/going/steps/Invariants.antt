@@ -1,5 +1,5 @@
 use Rattle.std.proofs.Common.{◌≡◌, ◌≤◌, ◌-◌}
-use Rattle.model.specs.Advance.{advanced}
+use Rattle.user_spec.specs.Advance.{advanced}
 use Rattle.one_node.proofs.going.steps.Given as goal
 
 -- the steps that are left from here are all steps from the start

@@ -1,5 +1,5 @@
 use Rattle.std.proofs.Common.{◌≡◌, drop, take, Some}
-use Rattle.model.specs.Machine.{played, start}
+use Rattle.one_node.specs.Machine.{played, start}
 use Rattle.one_node.proofs.play.play.Given as goal
 
 -- what was played leads here, and what is left to play gives what all steps give

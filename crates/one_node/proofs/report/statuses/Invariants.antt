@@ -1,5 +1,5 @@
 use Rattle.std.proofs.Common.{◌≡◌, ◌+◌, ◌++◌, drop, length, take}
-use Rattle.model.specs.Machine.{statuses_from}
+use Rattle.one_node.specs.Machine.{statuses_from}
 use Rattle.one_node.proofs.report.statuses.Given as goal
 
 abbrev pub invariant-loop-end : goal.invariant-loop-end

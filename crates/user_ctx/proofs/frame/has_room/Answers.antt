@@ -1,7 +1,7 @@
 use Rattle.std.proofs.Common.{ap, ◌∙◌}
 use Rattle.std.specs.Prelude.{is_ok}
 use Rattle.page_set.specs.Pages.{flat_at}
-use Rattle.model.specs.Request.{has_frame_room}
+use Rattle.user_spec.specs.Request.{has_frame_room}
 use Rattle.user_ctx.proofs.frame.has_room.Goals as goal
 
 pub returns : goal.returns

@@ -1,5 +1,5 @@
 use Rattle.std.proofs.Common.{◌≡◌, ◌∷◌, ◌-◌, length, take}
-use Rattle.model.specs.Request.{frame_registers}
+use Rattle.user_spec.specs.Request.{frame_registers}
 use Rattle.user_ctx.proofs.frame.load_registers.Given as goal
 
 abbrev pub invariant-loop-i : goal.invariant-loop-i

@@ -1,5 +1,5 @@
 use Rattle.std.proofs.Common.{◌≡◌, ◌∷◌, ◌++◌, [], drop}
-use Rattle.model.specs.Request.{with_words}
+use Rattle.user_spec.specs.Request.{with_words}
 use Rattle.user_ctx.proofs.frame.write_frame.Given as goal
 
 abbrev pub invariant-loop-i : goal.invariant-loop-i

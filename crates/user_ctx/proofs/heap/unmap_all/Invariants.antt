@@ -1,5 +1,5 @@
 use Rattle.std.proofs.Common.{◌≡◌, ◌-◌}
-use Rattle.model.specs.Request.{without_pages}
+use Rattle.user_spec.specs.Request.{without_pages}
 use Rattle.user_ctx.proofs.heap.unmap_all.Given as goal
 
 abbrev pub invariant-loop-page : goal.invariant-loop-page

@@ -1,5 +1,5 @@
 use Rattle.std.proofs.Common.{◌≡◌, ◌∷◌, drop, Some}
-use Rattle.model.specs.Instruction.{ran}
+use Rattle.user_spec.specs.Instruction.{ran}
 use Rattle.user_ctx.specs.Stopping.{core}
 use Rattle.user_ctx.specs.Decoded.{IsKnown}
 use Rattle.user_ctx.proofs.steps.run_known.Given as goal

@@ -1,5 +1,5 @@
 use Rattle.std.proofs.Common.{◌≡◌, ◌+◌, ◌-◌, ◌∙◌, sym, ap, refl, arith}
-use Rattle.model.specs.Io.{IoDone, closed_from, descriptor_count}
+use Rattle.kernel_spec.specs.Io.{IoDone, closed_from, descriptor_count}
 use Rattle.home_kernel.proofs.Closing.{descriptors, closed_step, closed_last, kept_on}
 use Rattle.home_kernel.proofs.io.Io.close_all.Goals as goal
 

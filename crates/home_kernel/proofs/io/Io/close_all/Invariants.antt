@@ -1,5 +1,5 @@
 use Rattle.std.proofs.Common.{◌≡◌, ◌-◌, ◌≤◌}
-use Rattle.model.specs.Io.{all_closed, closed_from, descriptor_count}
+use Rattle.kernel_spec.specs.Io.{all_closed, closed_from, descriptor_count}
 use Rattle.home_kernel.specs.Rules.{AreKept}
 use Rattle.home_kernel.proofs.io.Io.close_all.Given as goal
 

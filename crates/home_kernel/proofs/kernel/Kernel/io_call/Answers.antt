@@ -1,7 +1,7 @@
 use Rattle.std.proofs.Common.{◌≡◌, subst}
 use Rattle.std.specs.Option.{option_map}
-use Rattle.model.specs.Kernel.{answers_io}
-use Rattle.model.specs.Calls.{io_row}
+use Rattle.kernel_spec.specs.Kernel.{answers_io}
+use Rattle.kernel_spec.specs.Calls.{io_row}
 use Rattle.home_kernel.specs.Serving.{kernel_of, IoCalls}
 use Rattle.home_kernel.proofs.Lifting.{io_lifted}
 use Rattle.home_kernel.proofs.kernel.Kernel.io_call.Goals as goal

@@ -1,6 +1,6 @@
 use Rattle.std.proofs.Common.{◌≡◌, ◌∙◌, ◌++◌, ◌∷◌, [], ap, sym, Some, List, length, slice_get, arith}
 use Rattle.std.proofs.lemmas.Option.{gets}
-use Rattle.model.specs.User.{UserState}
+use Rattle.user_spec.specs.User.{UserState}
 use Rattle.one_node.proofs.Lives.{launches_in, state_of}
 use Rattle.one_node.proofs.home.Home.launch.Goals as goal
 

@@ -1,5 +1,5 @@
 use Rattle.std.proofs.Common.{◌≡◌, ◌-◌, ◌≤◌}
-use Rattle.model.specs.Advance.{walked}
+use Rattle.user_spec.specs.Advance.{walked}
 use Rattle.user_ctx.specs.Stopping.{after}
 use Rattle.user_ctx.proofs.user.User.run.Given as goal
 

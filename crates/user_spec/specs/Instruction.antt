@@ -1,17 +1,17 @@
 -- One instruction, by the table of the RISC-V unprivileged specification, 'RV32I Base Integer Instruction Set'.
 use Rattle.std.specs.Prelude.{ℕ, zero, suc, ◌+◌, ◌-◌, ◌*◌, ◌/◌, ◌%◌, ◌^◌, List, [], ◌∷◌, Bool, not, Option, Some, None, Result, Ok, Err, ◌==◌, if◌then◌else◌, slice_index, bit_and, bit_or, bit_xor, nat_lt, nat_le}
-use Rattle.model.specs.Words.{sum_of, difference_of, sign_filled, extended, is_below, one_if, shifted_left, shifted_right, shifted_signed}
-use Rattle.model.specs.User.{with_register}
+use Rattle.user_spec.specs.Words.{sum_of, difference_of, sign_filled, extended, is_below, one_if, shifted_left, shifted_right, shifted_signed}
+use Rattle.user_spec.specs.User.{with_register}
 use Rattle.page_set.specs.Pages.{PageMap, loaded, stored, bytes_1, bytes_2, bytes_4}
 use Rattle.rv_decode.specs.Instructions.{instruction_of}
 use Rattle.rv_decode.specs.declared.instruction.Instr.{Instr}
 use Rattle.rv_decode.specs.declared.instruction.Instr.TheVariants.{Lui, Auipc, Jal, Jalr, Beq, Bne, Blt, Bge, Bltu, Bgeu, Lb, Lh, Lw, Lbu, Lhu, Sb, Sh, Sw, Addi, Slti, Sltiu, Xori, Ori, Andi, Slli, Srli, Srai, Add, Sub, Sll, Slt, Sltu, Xor, Srl, Sra, Or, And, Fence, Ecall, Ebreak}
-use Rattle.model.specs.declared.effect.Form.{Form}
-use Rattle.model.specs.declared.effect.Form.TheVariants.{SignedByte, SignedHalf, Word, Byte, Half}
-use Rattle.model.specs.declared.effect.Width.{Width}
-use Rattle.model.specs.declared.effect.Width.TheVariants.{One, Two, Four}
-use Rattle.model.specs.declared.effect.Effect.{Effect}
-use Rattle.model.specs.declared.effect.Effect.TheVariants.{Sets, Loads, Stores, Calls, Raises}
+use Rattle.user_spec.specs.declared.effect.Form.{Form}
+use Rattle.user_spec.specs.declared.effect.Form.TheVariants.{SignedByte, SignedHalf, Word, Byte, Half}
+use Rattle.user_spec.specs.declared.effect.Width.{Width}
+use Rattle.user_spec.specs.declared.effect.Width.TheVariants.{One, Two, Four}
+use Rattle.user_spec.specs.declared.effect.Effect.{Effect}
+use Rattle.user_spec.specs.declared.effect.Effect.TheVariants.{Sets, Loads, Stores, Calls, Raises}
 
 -- what an instruction reads and writes
 pub record Core : Type 0 where

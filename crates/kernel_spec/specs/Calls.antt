@@ -11,9 +11,9 @@ use Rattle.fd_table.specs.Descriptors.{look_at, sought}
 use Rattle.fd_table.specs.declared.description.Look.{Look}
 use Rattle.fd_table.specs.declared.description.Target.{Target}
 use Rattle.fd_table.specs.declared.description.Target.TheVariants.{TermIn, TermOut, File, ReadEnd, WriteEnd}
-use Rattle.model.specs.Errors.{EBADF, EFBIG, ENOSPC}
-use Rattle.model.specs.Io.{IoState, IoDone, open_result, close_result, seek_result, dup_result, unlink_result}
-use Rattle.model.specs.Kernel.{KernelState, Input, Called, answers, answers_io, exited}
+use Rattle.call_table.specs.declared.error.TheConstants.{EBADF, EFBIG, ENOSPC}
+use Rattle.kernel_spec.specs.Io.{IoState, IoDone, open_result, close_result, seek_result, dup_result, unlink_result}
+use Rattle.kernel_spec.specs.Kernel.{KernelState, Input, Called, answers, answers_io, exited}
 
 -- ---- read
 

@@ -8,7 +8,7 @@ use Rattle.fd_table.specs.Descriptors.{FdTable, no_processes, look_at, slots_at,
 use Rattle.fd_table.specs.declared.description.Look.{Look}
 use Rattle.fd_table.specs.declared.description.Target.{Target}
 use Rattle.fd_table.specs.declared.description.Target.TheVariants.{TermIn, TermOut, File, ReadEnd, WriteEnd}
-use Rattle.model.specs.Errors.{ENOENT, EBADF, EEXIST, EINVAL, ENFILE, EMFILE, ENOSPC, ESPIPE, ENAMETOOLONG}
+use Rattle.call_table.specs.declared.error.TheConstants.{ENOENT, EBADF, EEXIST, EINVAL, ENFILE, EMFILE, ENOSPC, ESPIPE, ENAMETOOLONG}
 
 pub record IoState : Type 0 where
   pub files : FileTable

@@ -8,8 +8,8 @@ use Rattle.node_event.specs.declared.event.Way.TheVariants.{Did, Broke, Fell, Pa
 use Rattle.node_event.specs.declared.script.Order.{Order}
 use Rattle.node_event.specs.declared.script.Order.TheVariants.{Run}
 use Rattle.node_event.specs.declared.script.ScriptLine.{ScriptLine}
-use Rattle.model.specs.declared.step.Step.{Step}
-use Rattle.model.specs.declared.step.Step.TheVariants as step
+use Rattle.one_node.specs.declared.step.Step.{Step}
+use Rattle.one_node.specs.declared.step.Step.TheVariants as step
 
 -- ---- a script
 

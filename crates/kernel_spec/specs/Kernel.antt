@@ -10,7 +10,7 @@ use Rattle.fs_memory.specs.contracts.file.File as file_row
 use Rattle.fs_memory.specs.Files.{FileTable}
 use Rattle.fd_table.specs.contracts.description.Look as look_row
 use Rattle.fd_table.specs.Descriptors.{FdTable, Descriptions, Processes, launched}
-use Rattle.model.specs.Io.{IoState, IoDone, no_files, all_closed}
+use Rattle.kernel_spec.specs.Io.{IoState, IoDone, no_files, all_closed}
 
 -- what was typed and not read yet, and whether no more comes
 pub record Input : Type 0 where

@@ -11,13 +11,13 @@ use Rattle.call_table.specs.declared.process.PidState.{PidState}
 use Rattle.call_table.specs.declared.process.PidState.TheVariants as states
 use Rattle.call_table.specs.declared.process.Reply3.{Reply3}
 use Rattle.call_table.specs.contracts.process.Reply3 as reply_row
-use Rattle.model.specs.User.{UserState, coded_user}
-use Rattle.model.specs.Request.{call_request, returned}
-use Rattle.model.specs.Advance.{Went, Done, AtCall, Faults, advance, advanced}
-use Rattle.model.specs.Kernel.{KernelState, Called, no_process, with_process, with_end, coded_kernel}
-use Rattle.model.specs.Calls.{call_result}
-use Rattle.model.specs.declared.step.Step.{Step}
-use Rattle.model.specs.declared.step.Step.TheVariants.{Launch, Steps, Do, Break, Take, Fall}
+use Rattle.user_spec.specs.User.{UserState, coded_user}
+use Rattle.user_spec.specs.Request.{call_request, returned}
+use Rattle.user_spec.specs.Advance.{Went, Done, AtCall, Faults, advance, advanced}
+use Rattle.kernel_spec.specs.Kernel.{KernelState, Called, no_process, with_process, with_end, coded_kernel}
+use Rattle.kernel_spec.specs.Calls.{call_result}
+use Rattle.one_node.specs.declared.step.Step.{Step}
+use Rattle.one_node.specs.declared.step.Step.TheVariants.{Launch, Steps, Do, Break, Take, Fall}
 
 pub record MachineState : Type 0 where
   pub kernel : KernelState

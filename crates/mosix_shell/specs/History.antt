@@ -2,9 +2,9 @@
 use Rattle.std.specs.Prelude.{◌≡◌, ℕ, ◌+◌, List, [], ◌∷◌, length, Option, Some, None}
 use Rattle.node_event.specs.declared.event.Event.{Event}
 use Rattle.node_event.specs.declared.script.ScriptLine.{ScriptLine}
-use Rattle.model.specs.User.{UserState}
-use Rattle.model.specs.Machine.{MachineState, start, and_then, played}
-use Rattle.model.specs.Schedule.{event_steps}
+use Rattle.user_spec.specs.User.{UserState}
+use Rattle.one_node.specs.Machine.{MachineState, start, and_then, played}
+use Rattle.mosix_shell.specs.Schedule.{event_steps}
 
 -- the one-node machine after a history, none where an event could not be played
 abbrev pub machine_of : List UserState → List ScriptLine → List Event → Option MachineState

@@ -9,12 +9,12 @@ use Rattle.node_event.specs.declared.event.What.TheVariants.{Command, Steps, Sen
 use Rattle.node_event.specs.declared.event.Way.{Way}
 use Rattle.node_event.specs.declared.event.Way.TheVariants.{Did, Fell}
 use Rattle.node_event.specs.declared.script.ScriptLine.{ScriptLine}
-use Rattle.model.specs.declared.phase.Phase.{Phase}
-use Rattle.model.specs.declared.phase.Phase.TheVariants.{Goes, Waits, IsServed}
-use Rattle.model.specs.User.{UserState}
-use Rattle.model.specs.Advance.{request_of, asked_number, pauses}
-use Rattle.model.specs.Machine.{MachineState, live_user, ended_of}
-use Rattle.model.specs.History.{machine_of}
+use Rattle.mosix_shell.specs.declared.phase.Phase.{Phase}
+use Rattle.mosix_shell.specs.declared.phase.Phase.TheVariants.{Goes, Waits, IsServed}
+use Rattle.user_spec.specs.User.{UserState}
+use Rattle.user_spec.specs.Advance.{request_of, asked_number, pauses}
+use Rattle.one_node.specs.Machine.{MachineState, live_user, ended_of}
+use Rattle.mosix_shell.specs.History.{machine_of}
 
 abbrev pub phase_after : ℕ → What → Phase → Phase
 phase_after p (Sent pid number) phase = if pid == p then Waits number else phase

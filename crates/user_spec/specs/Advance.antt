@@ -1,9 +1,9 @@
 -- One step of a user process, on its state alone.
 use Rattle.std.specs.Prelude.{ℕ, zero, suc, ◌+◌, ◌-◌, ◌^◌, List, [], ◌∷◌, Bool, true, false, not, Option, Some, None, ◌==◌, ◌&&◌, ◌||◌, if◌then◌else◌, nat_le, slice_index}
 use Rattle.call_table.specs.declared.request.Request.{Request}
-use Rattle.model.specs.User.{UserState}
-use Rattle.model.specs.Instruction.{Core, Ran, RanTo, RanAtCall, RanFaults, one_instruction}
-use Rattle.model.specs.Request.{number_of, args_of, is_local_call, local_call, break_maps, call_request, fault_request}
+use Rattle.user_spec.specs.User.{UserState}
+use Rattle.user_spec.specs.Instruction.{Core, Ran, RanTo, RanAtCall, RanFaults, one_instruction}
+use Rattle.user_spec.specs.Request.{number_of, args_of, is_local_call, local_call, break_maps, call_request, fault_request}
 
 -- what one step does
 pub data Went : Type 0 where

@@ -10,8 +10,8 @@ use Rattle.call_table.specs.declared.request.Need.{Need}
 use Rattle.call_table.specs.declared.request.Kind.{Kind}
 use Rattle.call_table.specs.declared.request.Kind.TheVariants.{Plain, Fork, Return}
 use Rattle.page_set.specs.Pages.{PageMap, flat_at, loaded, bytes_4, with_bytes, zero_page, page_with_rights, changed_page}
-use Rattle.model.specs.Words.{sum_of}
-use Rattle.model.specs.User.{UserState, with_register}
+use Rattle.user_spec.specs.Words.{sum_of}
+use Rattle.user_spec.specs.User.{UserState, with_register}
 
 -- the number of a call stands in x17, its arguments in x10 to x15, the stack pointer in x2
 abbrev pub number_of : UserState → ℕ

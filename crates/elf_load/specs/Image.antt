@@ -6,9 +6,9 @@ use Rattle.std.specs.Option.{option_or}
 use Rattle.std.specs.Int.{w32, to_le_bytes}
 use Rattle.std.specs.FinMap as map
 use Rattle.page_set.specs.Pages.{PageMap, Page, little}
-use Rattle.model.specs.User.{UserState}
-use Rattle.model.specs.Request.{page_above}
-use Rattle.model.specs.declared.image.Header.{Header}
+use Rattle.user_spec.specs.User.{UserState}
+use Rattle.user_spec.specs.Request.{page_above}
+use Rattle.elf_load.specs.declared.image.Header.{Header}
 
 -- ---- the fields of the file
 

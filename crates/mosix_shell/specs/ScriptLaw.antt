@@ -7,9 +7,9 @@ use Rattle.node_event.specs.declared.event.Unsent.{Unsent}
 use Rattle.node_event.specs.declared.script.Order.{Order}
 use Rattle.node_event.specs.declared.script.Order.TheVariants.{Run}
 use Rattle.node_event.specs.declared.script.ScriptLine.{ScriptLine}
-use Rattle.model.specs.User.{UserState}
-use Rattle.model.specs.Machine.{MachineState, next_pid}
-use Rattle.model.specs.History.{machine_of}
+use Rattle.user_spec.specs.User.{UserState}
+use Rattle.one_node.specs.Machine.{MachineState, next_pid}
+use Rattle.mosix_shell.specs.History.{machine_of}
 
 abbrev pub commands_in : What → ℕ
 commands_in (Command line launched unsent poked) = 1

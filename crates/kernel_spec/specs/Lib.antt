@@ -1,0 +1,3 @@
+pub mod Io
+pub mod Kernel
+pub mod Calls

@@ -1,0 +1,5 @@
+pub mod Words
+pub mod User
+pub mod Instruction
+pub mod Request
+pub mod Advance
