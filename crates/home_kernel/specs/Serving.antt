@@ -5,7 +5,7 @@ use Rattle.call_table.specs.declared.request.Answer.{Answer}
 use Rattle.kernel_spec.specs.Io.{IoState, IoDone}
 use Rattle.kernel_spec.specs.Kernel.{KernelState, Input, Called, value_answer, with_process}
 use Rattle.kernel_spec.specs.Calls.{is_built}
-use Rattle.one_node.specs.Machine.{at_pid}
+use Rattle.kernel_spec.specs.Processes.{at_pid}
 use Rattle.home_kernel.specs.declared.kernel.Served.{Served}
 use Rattle.home_kernel.specs.declared.kernel.Served.TheVariants.{Blocks, NotBuilt, Done}
 

@@ -6,7 +6,7 @@ ghost use Rattle.fs_memory.specs.Files.{named_files};
 ghost use Rattle.fd_table.specs.Descriptors.{look_at};
 ghost use Rattle.kernel_spec.specs.Kernel.{KernelState, no_process, answers, answers_io, with_end, fed};
 ghost use Rattle.kernel_spec.specs.Calls.{call_result, io_row, is_built, read_input, read_result, write_file, write_terminal, write_result};
-ghost use Rattle.one_node.specs.Machine.{at_pid, end_of};
+ghost use Rattle.kernel_spec.specs.Processes.{at_pid, end_of};
 ghost use Rattle.home_kernel.specs.Serving.{Calls, Serves, Launches, has_room, is_live, IsLive};
 
 use crate::answers::{bytes_answer, value_answer};

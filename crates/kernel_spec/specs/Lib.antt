@@ -1,3 +1,4 @@
+pub mod Processes
 pub mod Io
 pub mod Kernel
 pub mod Calls

@@ -9,7 +9,8 @@ use Rattle.node_event.specs.declared.event.What.TheVariants.{Steps, Sent, Served
 use Rattle.node_event.specs.declared.event.Way.{Way}
 use Rattle.node_event.specs.declared.script.ScriptLine.{ScriptLine}
 use Rattle.user_spec.specs.User.{UserState}
-use Rattle.one_node.specs.Machine.{MachineState, at_pid, if_live, live_user, end_of, ended_of, start}
+use Rattle.one_node.specs.Machine.{MachineState, if_live, live_user, ended_of, start}
+use Rattle.kernel_spec.specs.Processes.{at_pid, end_of}
 use Rattle.mosix_shell.specs.History.{machine_of}
 use Rattle.mosix_shell.specs.declared.phase.Phase.{Phase}
 use Rattle.mosix_shell.specs.declared.phase.Phase.TheVariants.{Goes, Waits, IsServed}

@@ -6,7 +6,8 @@ use Rattle.node_event.specs.declared.event.What.{What}
 use Rattle.node_event.specs.declared.event.What.TheVariants.{Command, Got, Depart, Land}
 use Rattle.node_event.specs.declared.script.ScriptLine.{ScriptLine}
 use Rattle.user_spec.specs.User.{UserState}
-use Rattle.one_node.specs.Machine.{MachineState, at_pid}
+use Rattle.one_node.specs.Machine.{MachineState}
+use Rattle.kernel_spec.specs.Processes.{at_pid}
 use Rattle.mosix_shell.specs.History.{machine_of}
 
 -- a place: at a node, or on the way from one to another

@@ -15,6 +15,7 @@ use Rattle.user_spec.specs.User.{UserState, coded_user}
 use Rattle.user_spec.specs.Request.{call_request, returned}
 use Rattle.user_spec.specs.Advance.{Went, Done, AtCall, Faults, advance, advanced}
 use Rattle.kernel_spec.specs.Kernel.{KernelState, Called, no_process, with_process, with_end, coded_kernel}
+use Rattle.kernel_spec.specs.Processes.{at_pid, end_of}
 use Rattle.kernel_spec.specs.Calls.{call_result}
 use Rattle.one_node.specs.declared.step.Step.{Step}
 use Rattle.one_node.specs.declared.step.Step.TheVariants.{Launch, Steps, Do, Break, Take, Fall}
@@ -31,10 +32,6 @@ start = record { kernel = no_process; users = []; replies = [] }
 
 -- ---- processes by number
 
-abbrev pub at_pid : {A : Type 0} → List A → ℕ → Option A
-at_pid xs zero = None
-at_pid xs (suc i) = slice_get xs i
-
 -- the context of a live process
 abbrev pub if_live : Option (Option End) → Option UserState → Option UserState
 if_live (Some None) user = user
@@ -43,11 +40,6 @@ if_live None user = None
 
 abbrev pub live_user : MachineState → ℕ → Option UserState
 live_user m pid = if_live (at_pid m.kernel.ends pid) (at_pid m.users pid)
-
--- how a process ended, none where it is live or was never given
-abbrev pub end_of : Option (Option End) → Option End
-end_of None = None
-end_of (Some e) = e
 
 abbrev pub ended_of : MachineState → ℕ → Option End
 ended_of m pid = end_of (at_pid m.kernel.ends pid)

@@ -1,7 +1,8 @@
 // The plain system on one node as one value.
 ghost use Rattle.std.specs.Prelude.{◌≢◌, ◌≡◌, ◌+◌, ◌-◌, ◌<◌, ◌≤◌, ◌^◌, Some, None, IfOk, OnOk, slice_get, length, IfSome, is_some, ◌++◌, ◌∷◌, [], true, false, IsTrue, vec_len, if◌then◌else◌};
 ghost use Rattle.fs_memory.specs.Files.{named_files};
-ghost use Rattle.one_node.specs.Machine.{MachineState, start, launched, steps_of, live_user, done_of, fallen, machine_step, ended_of, statuses, at_pid, Moves};
+ghost use Rattle.one_node.specs.Machine.{MachineState, start, launched, steps_of, live_user, done_of, fallen, machine_step, ended_of, statuses, Moves};
+ghost use Rattle.kernel_spec.specs.Processes.{at_pid};
 ghost use Rattle.one_node.specs.Going.{GoesOr};
 ghost use Rattle.one_node.specs.Applying.{AppliedAs};
 ghost use Rattle.std.specs.Option.{option_copied};
