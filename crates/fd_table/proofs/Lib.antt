@@ -1,4 +1,5 @@
 mod PlaceLemmas
 mod CountLemmas
 mod HeldLemmas
+mod PairLemmas
 pub mod EndLemmas

@@ -127,6 +127,31 @@ impl Descriptions {
         Ok(id + 2)
     }
 
+    /// Adds two descriptions, each with one descriptor, under the lowest free numbers, and answers these. Where memory is not found nothing changes.
+    pub fn add_pair(&mut self, first: Look, second: Look) -> Result<(u32, u32), NoMemory>
+        requires { count_by is_some (drop 2 self.old) + 1 < DESCRIPTIONS }
+        ensures first { IfOk result (λ ids. ids.0 ≡ lowest_free self.old) }
+        ensures second { IfOk result (λ ids. ids.1 ≡ lowest_free (filled self.old (once_held first))) }
+        ensures ok { OnOk result (self.new ≡ filled (filled self.old (once_held first)) (once_held second)) }
+        ensures err { OnErr result (self.new ≡ self.old) }
+    {
+        let places = self.counted.places();
+        let id = self.counted.add(Description {
+            look: first,
+            holders: 1,
+        })?;
+        match self.counted.add(Description {
+            look: second,
+            holders: 1,
+        }) {
+            Ok(other) => Ok((id + 2, other + 2)),
+            Err(e) => {
+                let _description = self.counted.take_back(id, places);
+                Err(e)
+            }
+        }
+    }
+
     /// Drops a description that is no terminal's.
     #[tactic(auto, using(crate::proofs::PlaceLemmas::at_past_two, crate::proofs::PlaceLemmas::set_past_two))]
     pub fn remove(&mut self, id: u32)

@@ -120,6 +120,39 @@ impl Fds {
         Ok(fd)
     }
 
+    /// Gives a process two new descriptions with the offset 0, the first to read and the second to write, under its two lowest free descriptors,
+    /// and answers these. Where memory is not found nothing changes.
+    pub fn add_pair(
+        &mut self,
+        pid: u32,
+        first: Target,
+        second: Target,
+    ) -> Result<(u32, u32), NoMemory>
+        requires process { IsSome (at_id self.old.processes pid) }
+        requires free { 2 ≤ free_count (slots_at self.old.processes pid) }
+        requires few { counted self.old.descriptions + 1 < DESCRIPTIONS }
+        ensures first { IfOk result (λ fds. fds.0 ≡ lowest_fd self.old pid) }
+        ensures second { IfOk result (λ fds. fds.1 ≡ lowest_fd (added self.old pid first 1) pid) }
+        ensures ok { OnOk result (self.new ≡ added (added self.old pid first 1) pid second 2) }
+        ensures err { OnErr result (self.new ≡ self.old) }
+    {
+        let (id, other_id) = self.descriptions.add_pair(
+            Look {
+                target: first,
+                rights: 1,
+                offset: 0,
+            },
+            Look {
+                target: second,
+                rights: 2,
+                offset: 0,
+            },
+        )?;
+        let fd = processes::set_lowest(&mut self.processes, pid, id);
+        let other = processes::set_lowest(&mut self.processes, pid, other_id);
+        Ok((fd, other))
+    }
+
     /// The description of a descriptor. None exactly where the process has no such descriptor.
     pub fn look(&self, pid: u32, fd: u32) -> Option<Look>
         ensures look { result ≡ look_at self.now pid fd }

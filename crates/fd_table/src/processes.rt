@@ -93,6 +93,18 @@ pub fn set_slot(processes: &mut Vec<Option<Slots>>, pid: u32, fd: u32, slot: Opt
     processes[pid as usize] = Some(slots);
 }
 
+/// Writes a description under the lowest free descriptor of a process, and answers that descriptor.
+pub fn set_lowest(processes: &mut Vec<Option<Slots>>, pid: u32, id: u32) -> u32
+    requires there { IsSome (at_id processes.old.items pid) }
+    requires within { lowest_free (slots_at processes.old.items pid) < DESCRIPTORS }
+    ensures fd { result ≡ lowest_free (slots_at processes.old.items pid) }
+    ensures new { processes.new.items ≡ with_slot processes.old.items pid result (Some id) }
+{
+    let fd = lowest_free_of(processes, pid);
+    set_slot(processes, pid, fd, Some(id));
+    fd
+}
+
 /// Makes room for a process.
 pub fn make_room(processes: &mut Vec<Option<Slots>>, pid: u32) -> Result<(), NoMemory>
     ensures ok { OnOk result (processes.new.items ≡ processes.old.items ++ replicate (pid + 1 - length processes.old.items) None) }

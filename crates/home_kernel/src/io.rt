@@ -1,28 +1,32 @@
 // Files and descriptors, and the calls on them alone.
-ghost use Rattle.std.specs.Prelude.{◌≡◌, ◌<◌, ◌≤◌, ◌+◌, length, min, Some, None, IsSome, IfOk, OnErr, OnOk};
+ghost use Rattle.std.specs.Prelude.{◌≡◌, ◌<◌, ◌≤◌, ◌+◌, ◌++◌, length, min, Some, None, IsSome, IfOk, OnErr, OnOk, [], take, drop, vec_len, vec_capacity};
+ghost use Rattle.std.specs.Int.{w32, to_le_bytes};
+ghost use Rattle.pipe_table.specs.Table.{bytes_at, room_at, free_id, changed_at, with_more};
 ghost use Rattle.id_table.specs.Places.{at_id};
 ghost use Rattle.fs_memory.specs.Files.{id_called, fitting, named_files};
-ghost use Rattle.fd_table.specs.Descriptors.{description_of, look_at};
-ghost use Rattle.kernel_spec.specs.Io.{IoState, IoDone, no_files, room_error, truncated_files, after_last, open_found, open_absent, open_called, open_result, close_result, all_closed, seek_result, seek_to, seek_in, dup_result, unlink_result};
-ghost use Rattle.kernel_spec.specs.Calls.{file_part, with_write};
+ghost use Rattle.fd_table.specs.Descriptors.{description_of, look_at, end_count};
+ghost use Rattle.kernel_spec.specs.Io.{IoState, IoDone, no_files, room_error, truncated_files, after_last, pipes_after, ends_error, pipe_to, pipe_result, unless_held, open_found, open_absent, open_called, open_result, close_result, all_closed, seek_result, seek_to, seek_in, dup_result, unlink_result};
+ghost use Rattle.kernel_spec.specs.Calls.{file_part, with_write, fork_io};
 ghost use Rattle.home_kernel.specs.Rules.{launched_io, sought_io, AreKept, HaveHolders, IsHeldOnce};
 
 use crate::flags::{CREATE, EXCLUSIVE, TRUNCATE, flags_error, has_flag};
 use crate::names::name_error;
 use crate::places::place_of;
 use call_table::error::{EBADF, EEXIST, EINVAL, EMFILE, ENFILE, ENOENT, ENOSPC, ESPIPE};
-use call_table::limit::{DESCRIPTIONS, DESCRIPTORS, FILE_BYTES, TRANSFER_BYTES};
+use call_table::limit::{DESCRIPTIONS, DESCRIPTORS, FILE_BYTES, PIPE_BYTES, TRANSFER_BYTES};
 use call_table::{Bytes, NamedFiles, NoMemory};
 use fd_table::{Fds, Look, Target};
 use fs_memory::Files;
+use pipe_table::Pipes;
 use std::alloc::Global;
 use std::marker::Model;
 
-/// Files and descriptors.
+/// Files, descriptors and pipes.
 #[derive(Drop)]
 pub struct Io {
     files: Files,
     fds: Fds,
+    pipes: Pipes,
 }
 
 impl Model for Io {
@@ -34,7 +38,7 @@ impl Model for Io {
 
     ghost coded = { coded_io };
 
-    ghost view = { λ io. record { files = io.files; fds = io.fds } };
+    ghost view = { λ io. record { files = io.files; fds = io.fds; pipes = io.pipes } };
 
     ghost invariant = { λ io. IsIo io.files io.fds };
 }
@@ -80,6 +84,54 @@ fn release(files: &mut Files, gone: Option<Target>)
     }
 }
 
+/// Removes the pipe of a description that is gone, where no end of it is held.
+fn drop_pipe(pipes: &mut Pipes, fds: &Fds, gone: Option<Target>)
+    ensures { pipes.new ≡ pipes_after gone fds.now.descriptions pipes.old }
+{
+    match gone {
+        Some(Target::ReadEnd(id)) => drop_unless_held(pipes, fds, id),
+        Some(Target::WriteEnd(id)) => drop_unless_held(pipes, fds, id),
+        Some(Target::File(_)) => {}
+        Some(Target::TermIn) => {}
+        Some(Target::TermOut) => {}
+        None => {}
+    }
+}
+
+fn drop_unless_held(pipes: &mut Pipes, fds: &Fds, id: u32)
+    ensures { pipes.new ≡ unless_held id fds.now.descriptions pipes.old }
+{
+    if fds.ends(Target::ReadEnd(id)) == 0 && fds.ends(Target::WriteEnd(id)) == 0 {
+        pipes.remove(id);
+    }
+}
+
+/// The error of a process without two free descriptors, or of too many descriptions. None exactly where there is room for a pipe's ends.
+fn ends_error(fds: &Fds, pid: u32) -> Option<i32>
+    requires { IsSome (at_id fds.now.processes pid) }
+    ensures { result ≡ ends_error fds.now pid }
+{
+    if fds.free_fds(pid) < 2 {
+        return Some(EMFILE);
+    }
+    if fds.descriptions() > DESCRIPTIONS - 2 {
+        return Some(ENFILE);
+    }
+    None
+}
+
+/// Two descriptors as a pipe writes them.
+fn two_words(mut bytes: Vec<u8>, read: u32, write: u32) -> Bytes
+    requires empty { bytes.items ≡ [] }
+    requires len { vec_len bytes ≡ 0 }
+    requires room { 8 ≤ vec_capacity bytes }
+    ensures { result ≡ to_le_bytes w32 read ++ to_le_bytes w32 write }
+{
+    bytes.extend_from_slice(&read.to_le_bytes()).unwrap();
+    bytes.extend_from_slice(&write.to_le_bytes()).unwrap();
+    Bytes::from_vec(bytes)
+}
+
 impl Io {
     /// No file and no process.
     pub fn new(alloc: Global) -> Io
@@ -88,6 +140,7 @@ impl Io {
         Io {
             files: Files::new(alloc),
             fds: Fds::new(alloc),
+            pipes: Pipes::new(alloc),
         }
     }
 
@@ -99,6 +152,97 @@ impl Io {
     {
         self.fds.launch(pid)?;
         Ok(())
+    }
+
+    /// Gives a child the descriptors of its parent.
+    pub fn fork(&mut self, parent: u32, child: u32) -> Result<(), NoMemory>
+        requires parent { IsSome (at_id self.old.fds.processes parent) }
+        requires child { at_id self.old.fds.processes child ≡ None }
+        ensures ok { OnOk result (self.new ≡ fork_io self.old parent child) }
+        ensures err { OnErr result (self.new ≡ self.old) }
+    {
+        self.fds.fork(parent, child)?;
+        Ok(())
+    }
+
+    /// How many descriptions have an end of a pipe.
+    pub fn ends(&self, target: Target) -> u32
+        ensures { result ≡ end_count target self.now.fds.descriptions }
+    {
+        self.fds.ends(target)
+    }
+
+    /// How many bytes a pipe holds.
+    pub fn piped(&self, pipe: u32) -> u32
+        ensures { result ≡ length (bytes_at self.now.pipes pipe) }
+    {
+        self.pipes.held(pipe)
+    }
+
+    /// How many bytes more a pipe can hold.
+    pub fn space(&self, pipe: u32) -> u32
+        ensures { result ≡ room_at self.now.pipes pipe }
+    {
+        self.pipes.space(pipe)
+    }
+
+    /// At most so many bytes of a pipe, and at most 4,096, which leave it.
+    pub fn take(&mut self, pipe: u32, len: u32) -> Result<Bytes, NoMemory>
+        ensures bytes { IfOk result (λ bytes. bytes ≡ take (min len TRANSFER_BYTES) (bytes_at self.old.pipes pipe)) }
+        ensures ok { OnOk result (self.new ≡ record self.old { pipes = changed_at (drop (min len TRANSFER_BYTES)) self.old.pipes pipe }) }
+        ensures few { IfOk result (λ bytes. length bytes ≤ TRANSFER_BYTES) }
+        ensures err { OnErr result (self.new ≡ self.old) }
+        ensures kept { AreKept self.old.fds.processes self.new.fds.processes }
+    {
+        let bytes = self.pipes.take(pipe, len.min(TRANSFER_BYTES))?;
+        Ok(bytes)
+    }
+
+    /// Puts into a pipe what fits, and answers how many bytes those are.
+    pub fn put(&mut self, pipe: u32, bytes: &[u8]) -> u32
+        ensures count { result ≡ length (take (room_at self.old.pipes pipe) bytes.now) }
+        ensures is { self.new ≡ record self.old { pipes = changed_at (with_more (take (room_at self.old.pipes pipe) bytes.now)) self.old.pipes pipe } }
+        ensures few { result ≤ PIPE_BYTES }
+        ensures kept { AreKept self.old.fds.processes self.new.fds.processes }
+    {
+        self.pipes.put(pipe, bytes)
+    }
+
+    /// Makes a pipe, and gives a process a descriptor to read it and one to write it. The bytes are these two.
+    pub fn pipe(&mut self, alloc: Global, pid: u32) -> Result<(i32, Bytes), NoMemory>
+        requires { IsSome (at_id self.old.fds.processes pid) }
+        ensures ok { IfOk result (λ given. pipe_result self.old pid ≡ record { io = self.new; value = given.0; bytes = given.1 }) }
+        ensures err { OnErr result (self.new ≡ self.old) }
+        ensures kept { AreKept self.old.fds.processes self.new.fds.processes }
+    {
+        if let Some(error) = ends_error(&self.fds, pid) {
+            return Ok((error, Bytes::new(alloc)));
+        }
+        self.make_pipe(alloc, pid)
+    }
+
+    fn make_pipe(&mut self, alloc: Global, pid: u32) -> Result<(i32, Bytes), NoMemory>
+        requires process { IsSome (at_id self.old.fds.processes pid) }
+        requires room { ends_error self.old.fds pid ≡ None }
+        ensures ok { IfOk result (λ given. pipe_to (free_id self.old.pipes) self.old pid ≡ record { io = self.new; value = given.0; bytes = given.1 }) }
+        ensures err { OnErr result (self.new ≡ self.old) }
+        ensures kept { AreKept self.old.fds.processes self.new.fds.processes }
+    {
+        let bytes = Vec::with_capacity(alloc, 8)?;
+        let places = self.pipes.places();
+        let Some(id) = self.pipes.create()? else {
+            return Ok((ENFILE, Bytes::new(alloc)));
+        };
+        match self
+            .fds
+            .add_pair(pid, Target::ReadEnd(id), Target::WriteEnd(id))
+        {
+            Ok((read, write)) => Ok((0, two_words(bytes, read, write))),
+            Err(e) => {
+                self.pipes.take_back(id, places);
+                Err(e)
+            }
+        }
     }
 
     /// Opens a file that is there.
@@ -181,6 +325,7 @@ impl Io {
         }
         let gone = self.fds.close(pid, fd);
         release(&mut self.files, gone);
+        drop_pipe(&mut self.pipes, &self.fds, gone);
         0
     }
 

@@ -1,39 +1,36 @@
-// The kernel: all calls, and the ends of processes.
-ghost use Rattle.std.specs.Prelude.{◌≡◌, ◌+◌, ◌-◌, ◌<◌, ◌≤◌, ◌^◌, Some, None, true, IsTrue, OnErr, OnOk, IfOk, length, count_by, is_none, slice_set, vec_len};
-ghost use Rattle.std.specs.List.{list_any};
-ghost use Rattle.std.specs.Option.{option_map};
+// The kernel: all calls, the signals and the ends of processes.
+ghost use Rattle.std.specs.Prelude.{◌≡◌, ◌+◌, ◌-◌, ◌<◌, ◌≤◌, Some, None, true, false, IsTrue, IsSome, OnErr, OnOk, IfOk, length, is_some, is_none};
+ghost use Rattle.id_table.specs.Places.{at_id};
 ghost use Rattle.fs_memory.specs.Files.{named_files};
 ghost use Rattle.fd_table.specs.Descriptors.{look_at};
-ghost use Rattle.kernel_spec.specs.Kernel.{KernelState, no_process, given, end_at, is_live, has_room, answers, answers_io, with_end, fed};
-ghost use Rattle.kernel_spec.specs.Calls.{call_result, is_built, read_input, read_result, write_file, write_terminal, write_result};
-ghost use Rattle.kernel_spec.specs.Io.{open_result, close_result, seek_result, dup_result, unlink_result};
-ghost use Rattle.kernel_spec.specs.Processes.{set_pid};
-ghost use Rattle.home_kernel.specs.Serving.{Calls, Serves, Launches, IsLive};
+ghost use Rattle.kernel_spec.specs.Io.{open_result, close_result, seek_result, dup_result, unlink_result, pipe_result};
+ghost use Rattle.kernel_spec.specs.Processes.{kill_result, sigact_result, sigmask_result};
+ghost use Rattle.kernel_spec.specs.Kernel.{KernelState, no_process, given, end_at, is_live, has_room, answers, answers_io, answers_done, value_answer, deliverable, with_end, exited, raised_by_end, with_raised, take_result, fed};
+ghost use Rattle.kernel_spec.specs.Calls.{call_result, read_input, read_pipe, read_result, write_file, write_terminal, write_pipe, write_result, fork_result, wait_result, sigreturn_result, answers_given};
+ghost use Rattle.home_kernel.specs.Serving.{Serves, Launches, IsLive, Takes, is_poked};
 
-use crate::answers::{bytes_answer, value_answer};
+use crate::answers::{Served, bytes_answer, done, fork_answer, status_bytes, value, value_answer};
 use crate::io::Io;
+use crate::processes::Processes;
 use crate::terminal::show;
 use crate::typed::Typed;
-use call_table::call::{CLOSE, DUP, EXIT, LSEEK, OPEN, READ, UNLINK, WRITE, YIELD};
-use call_table::error::{EBADF, EFBIG};
-use call_table::limit::{FILE_BYTES, LAST_LAUNCHED, PROCESSES};
-use call_table::{Answer, Bytes, End, NamedFiles, NoMemory, Request};
+use call_table::call::{
+    CLOSE, DUP, EXIT, FORK, GETPPID, KILL, LSEEK, OPEN, PIPE, READ, SIGACT, SIGMASK, SIGRETURN,
+    UNLINK, WAIT, WRITE, YIELD,
+};
+use call_table::error::{EAGAIN, EBADF, ECHILD, EFBIG, EINTR, ENOSYS, EPIPE};
+use call_table::limit::FILE_BYTES;
+use call_table::signal::SIGPIPE;
+use call_table::{Answer, Bytes, End, Kind, NamedFiles, NoMemory, Request, Taken};
 use fd_table::{Look, Target};
 use std::alloc::Global;
 use std::marker::Model;
 
-/// The numbers of the calls that are built.
-const BUILT: [u32; 9] = [EXIT, OPEN, CLOSE, READ, WRITE, LSEEK, DUP, UNLINK, YIELD];
-
-/// What a call comes to.
-#[derive(Debug, Drop)]
-pub enum Served {
-    /// It waits for what other calls leave.
-    Blocks,
-    /// A call that is not built.
-    NotBuilt,
-    /// Its answer, and another live process at which a signal was raised.
-    Done { answer: Answer, raised: Option<u32> },
+/// How a signal was taken, none where there was none, and a live parent at which a death raised 17 that it does not ignore.
+#[derive(Clone, Copy, Debug, PartialEq, Eq)]
+pub struct Took {
+    pub taken: Option<Taken>,
+    pub raised: Option<u32>,
 }
 
 /// The home's side of all processes, seen as the state of the kernel.
@@ -42,7 +39,7 @@ pub struct Kernel {
     io: Io,
     terminal: Bytes,
     typed: Typed,
-    ends: Vec<Option<End>>,
+    processes: Processes,
 }
 
 impl Model for Kernel {
@@ -54,33 +51,9 @@ impl Model for Kernel {
 
     ghost coded = { coded_kernel };
 
-    ghost view = { λ k. kernel_of k.io k.terminal k.typed k.ends.items };
+    ghost view = { λ k. kernel_of k.io k.terminal k.typed k.processes };
 
-    ghost invariant = { λ k. IsKernel (kernel_of k.io k.terminal k.typed k.ends.items) };
-}
-
-/// Whether a call is built.
-pub fn is_built(number: u32) -> bool
-    ensures { result ≡ is_built number }
-{
-    BUILT.iter().any(|built| *built == number)
-}
-
-/// How many processes are live.
-fn live_count(ends: &[Option<End>]) -> usize
-    ensures { result ≡ count_by is_none ends.now }
-{
-    ends.iter().filter(|e| e.is_none()).count()
-}
-
-/// Marks the process of a pid as ended.
-fn set_end(ends: &mut Vec<Option<End>>, pid: u32, end: End)
-    requires low { 1 ≤ pid }
-    requires high { pid ≤ vec_len ends.old }
-    ensures is { ends.new.items ≡ set_pid ends.old.items pid (Some end) }
-    ensures len { vec_len ends.new ≡ vec_len ends.old }
-{
-    ends[pid as usize - 1] = Some(end);
+    ghost invariant = { λ k. IsKernel (kernel_of k.io k.terminal k.typed k.processes) };
 }
 
 impl Kernel {
@@ -92,15 +65,15 @@ impl Kernel {
             io: Io::new(alloc),
             terminal: Bytes::new(alloc),
             typed: Typed::new(alloc),
-            ends: Vec::new(alloc),
+            processes: Processes::new(alloc),
         }
     }
 
-    /// Whether one more process can be launched: at most 64 live, and pids go to 32,767.
+    /// Whether one more process can be launched: at most 64 are live or zombies, and pids go to 32,767.
     pub fn can_launch(&self) -> bool
         ensures { result ≡ has_room self.now }
     {
-        live_count(&self.ends) < PROCESSES as usize && self.ends.len() < LAST_LAUNCHED as usize
+        self.processes.next_pid(0).is_some()
     }
 
     /// One more process with the terminal's descriptors: its pid, None exactly where there is no room. Want of memory changes nothing.
@@ -108,40 +81,125 @@ impl Kernel {
         ensures ok { IfOk result (λ pid. Launches pid self.old self.new) }
         ensures err { OnErr result (self.new ≡ self.old) }
     {
-        if !self.can_launch() {
+        let Some(pid) = self.processes.launch()? else {
             return Ok(None);
+        };
+        match self.io.launch(pid) {
+            Ok(()) => Ok(Some(pid)),
+            Err(e) => {
+                self.processes.take_back(0);
+                Err(e)
+            }
         }
-        let pid = self.ends.len() as u32 + 1;
-        self.ends.reserve(1)?;
-        self.io.launch(pid)?;
-        self.ends.push_reserved(None);
-        Ok(Some(pid))
     }
 
-    /// Ends a live process, whose descriptors are closed.
-    fn end(&mut self, pid: u32, end: End)
+    /// Ends a live process, whose descriptors are closed. The answer is a live parent that does not ignore the 17 that is raised at it.
+    fn end(&mut self, pid: u32, end: End) -> Option<u32>
         requires { IsLive self.old pid }
         ensures is { self.new ≡ with_end self.old pid end }
-        ensures given { given self.new ≡ given self.old }
+        ensures raised { result ≡ raised_by_end self.old pid }
     {
         self.io.close_all(pid);
-        set_end(&mut self.ends, pid, end);
+        self.processes.end(pid, end)
+    }
+
+    /// The end of a live process by a call.
+    fn exit(&mut self, alloc: Global, pid: u32, code: u32) -> Served
+        requires { IsLive self.old pid }
+        ensures { Serves result (Some (exited self.old pid code)) self.old self.new }
+    {
+        let raised = self.end(pid, End::Exit((code % 256) as u8));
+        Served::Done {
+            answer: value_answer(alloc, 0),
+            raised,
+        }
+    }
+
+    /// A child with its parent's descriptions, mask and actions.
+    fn fork(&mut self, alloc: Global, pid: u32) -> Result<Served, NoMemory>
+        requires { IsLive self.old pid }
+        ensures ok { IfOk result (λ served. Serves served (Some (fork_result self.old pid)) self.old self.new) }
+        ensures err { OnErr result (self.new ≡ self.old) }
+    {
+        let Some(child) = self.processes.fork(pid)? else {
+            return Ok(value(alloc, EAGAIN));
+        };
+        match self.io.fork(pid, child) {
+            Ok(()) => Ok(done(fork_answer(alloc, child))),
+            Err(e) => {
+                self.processes.take_back(pid);
+                Err(e)
+            }
+        }
+    }
+
+    /// The lowest zombie child, which goes. Without one a process with children waits.
+    fn wait(&mut self, alloc: Global, pid: u32, status: u32) -> Result<Served, NoMemory>
+        ensures ok { IfOk result (λ served. Serves served (wait_result self.old pid status) self.old self.new) }
+        ensures err { OnErr result (self.new ≡ self.old) }
+    {
+        match self.processes.zombie_of(pid) {
+            Some(child) => {
+                let bytes = status_bytes(alloc, status, self.processes.ended(child))?;
+                self.processes.reap(child);
+                Ok(done(Answer {
+                    value: child as i32,
+                    bytes,
+                    kind: Kind::Plain,
+                }))
+            }
+            None => {
+                if self.processes.has_child(pid) {
+                    return Ok(Served::Blocks);
+                }
+                Ok(value(alloc, ECHILD))
+            }
+        }
     }
 
     /// A read of the terminal's input, which blocks where nothing was typed until the input ends.
-    fn read_input(&mut self, alloc: Global, len: u32) -> Result<Option<Answer>, NoMemory>
-        ensures ok { IfOk result (λ answer. Calls answer (read_input self.old len) self.old self.new) }
+    fn read_input(&mut self, alloc: Global, len: u32) -> Result<Served, NoMemory>
+        ensures ok { IfOk result (λ served. Serves served (read_input self.old len) self.old self.new) }
         ensures err { OnErr result (self.new ≡ self.old) }
-        ensures given { given self.new ≡ given self.old }
     {
         if self.typed.len() == 0 {
             if self.typed.has_ended() {
-                return Ok(Some(value_answer(alloc, 0)));
+                return Ok(value(alloc, 0));
             }
-            return Ok(None);
+            return Ok(Served::Blocks);
         }
         let bytes = self.typed.take(alloc, len)?;
-        Ok(Some(bytes_answer(bytes)))
+        Ok(done(bytes_answer(bytes)))
+    }
+
+    /// A read of a pipe, which blocks where it is empty while an end that writes is held.
+    fn read_pipe(&mut self, alloc: Global, pipe: u32, len: u32) -> Result<Served, NoMemory>
+        ensures ok { IfOk result (λ served. Serves served (read_pipe self.old pipe len) self.old self.new) }
+        ensures err { OnErr result (self.new ≡ self.old) }
+    {
+        if self.io.piped(pipe) == 0 {
+            if self.io.ends(Target::WriteEnd(pipe)) == 0 {
+                return Ok(value(alloc, 0));
+            }
+            return Ok(Served::Blocks);
+        }
+        let bytes = self.io.take(pipe, len)?;
+        Ok(done(bytes_answer(bytes)))
+    }
+
+    /// A write to a pipe, which blocks where it is full. Without an end that reads it raises 13 at the caller.
+    fn write_pipe(&mut self, alloc: Global, pid: u32, pipe: u32, bytes: &[u8]) -> Served
+        ensures { Serves result (write_pipe self.old pid pipe bytes.now) self.old self.new }
+    {
+        if self.io.ends(Target::ReadEnd(pipe)) == 0 {
+            self.processes.raise(pid, SIGPIPE);
+            return value(alloc, EPIPE);
+        }
+        if self.io.space(pipe) == 0 {
+            return Served::Blocks;
+        }
+        let count = self.io.put(pipe, bytes);
+        value(alloc, count as i32)
     }
 
     /// A read of a descriptor.
@@ -151,29 +209,28 @@ impl Kernel {
         pid: u32,
         fd: u32,
         len: u32,
-    ) -> Result<Option<Answer>, NoMemory>
-        ensures ok { IfOk result (λ answer. Calls answer (read_result self.old pid fd len) self.old self.new) }
+    ) -> Result<Served, NoMemory>
+        ensures ok { IfOk result (λ served. Serves served (read_result self.old pid fd len) self.old self.new) }
         ensures err { OnErr result (self.new ≡ self.old) }
-        ensures given { given self.new ≡ given self.old }
     {
         let Some(look) = self.io.look(pid, fd) else {
-            return Ok(Some(value_answer(alloc, EBADF)));
+            return Ok(value(alloc, EBADF));
         };
         if look.rights % 2 != 1 {
-            return Ok(Some(value_answer(alloc, EBADF)));
+            return Ok(value(alloc, EBADF));
         }
         if len == 0 {
-            return Ok(Some(value_answer(alloc, 0)));
+            return Ok(value(alloc, 0));
         }
         match look.target {
             Target::File(id) => {
                 let bytes = self.io.read(pid, fd, look, id, len)?;
-                Ok(Some(bytes_answer(bytes)))
+                Ok(done(bytes_answer(bytes)))
             }
             Target::TermIn => Ok(self.read_input(alloc, len)?),
-            Target::TermOut => Ok(Some(value_answer(alloc, EBADF))),
-            Target::ReadEnd(_) => Ok(None),
-            Target::WriteEnd(_) => Ok(None),
+            Target::TermOut => Ok(value(alloc, EBADF)),
+            Target::ReadEnd(pipe) => Ok(self.read_pipe(alloc, pipe, len)?),
+            Target::WriteEnd(_) => Ok(value(alloc, EBADF)),
         }
     }
 
@@ -190,7 +247,6 @@ impl Kernel {
         requires file { look.target ≡ Target.File id }
         ensures ok { IfOk result (λ value. write_file self.old pid fd id look.offset bytes.now ≡ answers self.new value) }
         ensures err { OnErr result (self.new ≡ self.old) }
-        ensures given { given self.new ≡ given self.old }
     {
         if look.offset >= FILE_BYTES {
             return Ok(EFBIG);
@@ -203,7 +259,6 @@ impl Kernel {
     fn write_terminal(&mut self, bytes: &[u8]) -> Result<i32, NoMemory>
         ensures ok { IfOk result (λ value. write_terminal self.old bytes.now ≡ answers self.new value) }
         ensures err { OnErr result (self.new ≡ self.old) }
-        ensures given { given self.new ≡ given self.old }
     {
         let value = show(&mut self.terminal, bytes)?;
         Ok(value)
@@ -216,32 +271,31 @@ impl Kernel {
         pid: u32,
         fd: u32,
         bytes: &[u8],
-    ) -> Result<Option<Answer>, NoMemory>
-        ensures ok { IfOk result (λ answer. Calls answer (write_result self.old pid fd bytes.now) self.old self.new) }
+    ) -> Result<Served, NoMemory>
+        ensures ok { IfOk result (λ served. Serves served (write_result self.old pid fd bytes.now) self.old self.new) }
         ensures err { OnErr result (self.new ≡ self.old) }
-        ensures given { given self.new ≡ given self.old }
     {
         let Some(look) = self.io.look(pid, fd) else {
-            return Ok(Some(value_answer(alloc, EBADF)));
+            return Ok(value(alloc, EBADF));
         };
         if look.rights / 2 % 2 != 1 {
-            return Ok(Some(value_answer(alloc, EBADF)));
+            return Ok(value(alloc, EBADF));
         }
         if bytes.is_empty() {
-            return Ok(Some(value_answer(alloc, 0)));
+            return Ok(value(alloc, 0));
         }
         match look.target {
             Target::File(id) => {
-                let value = self.write_file(pid, fd, look, id, bytes)?;
-                Ok(Some(value_answer(alloc, value)))
+                let written = self.write_file(pid, fd, look, id, bytes)?;
+                Ok(value(alloc, written))
             }
             Target::TermOut => {
-                let value = self.write_terminal(bytes)?;
-                Ok(Some(value_answer(alloc, value)))
+                let written = self.write_terminal(bytes)?;
+                Ok(value(alloc, written))
             }
-            Target::TermIn => Ok(Some(value_answer(alloc, EBADF))),
-            Target::ReadEnd(_) => Ok(None),
-            Target::WriteEnd(_) => Ok(None),
+            Target::TermIn => Ok(value(alloc, EBADF)),
+            Target::ReadEnd(_) => Ok(value(alloc, EBADF)),
+            Target::WriteEnd(pipe) => Ok(self.write_pipe(alloc, pid, pipe, bytes)),
         }
     }
 
@@ -253,20 +307,18 @@ impl Kernel {
         len: u32,
         name: &[u8],
         flags: u32,
-    ) -> Result<Option<Answer>, NoMemory>
+    ) -> Result<Served, NoMemory>
         requires { IsLive self.old pid }
-        ensures ok { IfOk result (λ answer. Calls answer (Some (answers_io self.old (open_result self.old.io pid len name.now flags))) self.old self.new) }
+        ensures ok { IfOk result (λ served. Serves served (Some (answers_io self.old (open_result self.old.io pid len name.now flags))) self.old self.new) }
         ensures err { OnErr result (self.new ≡ self.old) }
-        ensures given { given self.new ≡ given self.old }
     {
-        let value = self.io.open(pid, len, name, flags)?;
-        Ok(Some(value_answer(alloc, value)))
+        let opened = self.io.open(pid, len, name, flags)?;
+        Ok(value(alloc, opened))
     }
 
     /// Closes a descriptor.
     fn close(&mut self, pid: u32, fd: u32) -> i32
         ensures is { answers_io self.old (close_result self.old.io pid fd) ≡ answers self.new result }
-        ensures given { given self.new ≡ given self.old }
     {
         self.io.close(pid, fd)
     }
@@ -274,7 +326,6 @@ impl Kernel {
     /// Moves the offset of a descriptor's description.
     fn seek(&mut self, pid: u32, fd: u32, off: u32, whence: u32) -> i32
         ensures is { answers_io self.old (seek_result self.old.io pid fd off whence) ≡ answers self.new result }
-        ensures given { given self.new ≡ given self.old }
     {
         self.io.seek(pid, fd, off, whence)
     }
@@ -282,7 +333,6 @@ impl Kernel {
     /// Shares a descriptor's description.
     fn dup(&mut self, pid: u32, fd: u32) -> i32
         ensures is { answers_io self.old (dup_result self.old.io pid fd) ≡ answers self.new result }
-        ensures given { given self.new ≡ given self.old }
     {
         self.io.dup(pid, fd)
     }
@@ -290,116 +340,172 @@ impl Kernel {
     /// Takes the name from a file.
     fn unlink(&mut self, len: u32, name: &Bytes) -> i32
         ensures is { answers_io self.old (unlink_result self.old.io len name.now) ≡ answers self.new result }
-        ensures given { given self.new ≡ given self.old }
     {
         self.io.unlink(len, name.as_slice())
     }
 
-    /// A call by its number: its answer, None where it blocks or is not built.
-    #[tactic(auto, unfolding(kernel_spec::specs::Calls::call_row))]
-    fn call(
+    /// Makes a pipe with two ends.
+    fn pipe(&mut self, alloc: Global, pid: u32) -> Result<Served, NoMemory>
+        requires { IsLive self.old pid }
+        ensures ok { IfOk result (λ served. Serves served (Some (answers_given self.old (pipe_result self.old.io pid))) self.old self.new) }
+        ensures err { OnErr result (self.new ≡ self.old) }
+    {
+        let (value, bytes) = self.io.pipe(alloc, pid)?;
+        Ok(done(Answer {
+            value,
+            bytes,
+            kind: Kind::Plain,
+        }))
+    }
+
+    /// Raises a signal at a process by a call.
+    fn kill(&mut self, alloc: Global, pid: u32, target: u32, signal: u32) -> Served
+        ensures { Serves result (Some (answers_done self.old (kill_result self.old.processes pid target signal))) self.old self.new }
+    {
+        let (value, raised) = self.processes.kill(pid, target, signal);
+        Served::Done {
+            answer: value_answer(alloc, value),
+            raised,
+        }
+    }
+
+    /// Sets the action for a signal.
+    fn sigact(
         &mut self,
         alloc: Global,
         pid: u32,
-        request: &Request,
-    ) -> Result<Option<Answer>, NoMemory>
+        signal: u32,
+        handler: u32,
+        restorer: u32,
+    ) -> Served
+        ensures { Serves result (Some (answers_done self.old (sigact_result self.old.processes pid signal handler restorer))) self.old self.new }
+    {
+        let set = self.processes.sigact(pid, signal, handler, restorer);
+        value(alloc, set)
+    }
+
+    /// The return from a handler, after which the mask is that of its frame.
+    fn sigreturn(&mut self, alloc: Global, pid: u32, mask: u32) -> Served
+        ensures { Serves result (Some (sigreturn_result self.old pid mask)) self.old self.new }
+    {
+        let _old = self.processes.set_mask(pid, mask);
+        done(Answer {
+            value: 0,
+            bytes: Bytes::new(alloc),
+            kind: Kind::Return,
+        })
+    }
+
+    /// Sets the mask. The value is the old one.
+    fn sigmask(&mut self, alloc: Global, pid: u32, mask: u32) -> Served
+        ensures { Serves result (Some (answers_done self.old (sigmask_result self.old.processes pid mask))) self.old self.new }
+    {
+        let old = self.processes.set_mask(pid, mask);
+        value(alloc, old as i32)
+    }
+
+    /// A call of a live process by its number. A call that blocks and want of memory change nothing.
+    #[tactic(auto, unfolding(kernel_spec::specs::Calls::call_row))]
+    pub fn serve(&mut self, alloc: Global, pid: u32, request: &Request) -> Result<Served, NoMemory>
         requires { IsLive self.old pid }
-        ensures ok { IfOk result (λ answer. Calls answer (call_result self.old pid request.now) self.old self.new) }
+        ensures ok { IfOk result (λ served. Serves served (call_result self.old pid request.now) self.old self.new) }
         ensures err { OnErr result (self.new ≡ self.old) }
-        ensures given { given self.new ≡ given self.old }
     {
         let (a, b, c) = (request.args[0], request.args[1], request.args[2]);
         match request.number {
-            EXIT => {
-                self.end(pid, End::Exit((a % 256) as u8));
-                Ok(Some(value_answer(alloc, 0)))
-            }
+            EXIT => Ok(self.exit(alloc, pid, a)),
+            GETPPID => Ok(value(alloc, self.processes.parent(pid) as i32)),
+            FORK => Ok(self.fork(alloc, pid)?),
+            WAIT => Ok(self.wait(alloc, pid, a)?),
             OPEN => Ok(self.open(alloc, pid, b, request.bytes.as_slice(), c)?),
-            CLOSE => Ok(Some(value_answer(alloc, self.close(pid, a)))),
+            CLOSE => Ok(value(alloc, self.close(pid, a))),
             READ => Ok(self.read(alloc, pid, a, c)?),
             WRITE => Ok(self.write(alloc, pid, a, request.bytes.as_slice())?),
-            LSEEK => Ok(Some(value_answer(alloc, self.seek(pid, a, b, c)))),
-            DUP => Ok(Some(value_answer(alloc, self.dup(pid, a)))),
-            UNLINK => Ok(Some(value_answer(alloc, self.unlink(b, &request.bytes)))),
-            YIELD => Ok(Some(value_answer(alloc, 0))),
-            _ => Ok(None),
+            LSEEK => Ok(value(alloc, self.seek(pid, a, b, c))),
+            PIPE => Ok(self.pipe(alloc, pid)?),
+            DUP => Ok(value(alloc, self.dup(pid, a))),
+            UNLINK => Ok(value(alloc, self.unlink(b, &request.bytes))),
+            KILL => Ok(self.kill(alloc, pid, a, b)),
+            SIGACT => Ok(self.sigact(alloc, pid, a, b, c)),
+            SIGRETURN => Ok(self.sigreturn(alloc, pid, a)),
+            SIGMASK => Ok(self.sigmask(alloc, pid, a)),
+            YIELD => Ok(value(alloc, 0)),
+            _ => Ok(value(alloc, ENOSYS)),
         }
     }
 
-    /// A call of a live process. A call that blocks or is not built, and want of memory, change nothing.
-    pub fn serve(&mut self, alloc: Global, pid: u32, request: &Request) -> Result<Served, NoMemory>
-        requires { IsLive self.old pid }
-        ensures ok { IfOk result (λ served. Serves served request.now.number (call_result self.old pid request.now) self.old self.new) }
-        ensures err { OnErr result (self.new ≡ self.old) }
-        ensures given { given self.new ≡ given self.old }
+    /// Breaks off a call that blocks: its answer. Nothing changes.
+    pub fn break_call(&mut self, alloc: Global, _pid: u32, _request: &Request) -> Answer
+        ensures answer { result ≡ value_answer EINTR }
+        ensures same { self.new ≡ self.old }
     {
-        match self.call(alloc, pid, request)? {
-            Some(answer) => Ok(Served::Done {
-                answer,
-                raised: None,
-            }),
-            None => {
-                if is_built(request.number) {
-                    return Ok(Served::Blocks);
-                }
-                Ok(Served::NotBuilt)
-            }
-        }
+        value_answer(alloc, EINTR)
     }
 
-    /// Ends a live process by the signal of its fault. The answer is a live parent at which a signal was raised; no process has a parent yet.
+    /// Ends a live process by the signal of its fault. The answer is a live parent that does not ignore the 17 that is raised at it.
     pub fn fall(&mut self, pid: u32, signal: u8) -> Option<u32>
         requires { IsLive self.old pid }
-        ensures raised { result ≡ None }
+        ensures raised { result ≡ raised_by_end self.old pid }
         ensures is { self.new ≡ with_end self.old pid (End.Signal signal) }
-        ensures given { given self.new ≡ given self.old }
     {
-        self.end(pid, End::Signal(signal));
-        None
+        self.end(pid, End::Signal(signal))
+    }
+
+    /// Takes the lowest signal that a process can take. None exactly where it is not live or can take none. A handler without room is death by 11.
+    pub fn take(&mut self, pid: u32, room: bool) -> Took
+        ensures { Takes result (take_result self.old pid room) self.old self.new }
+    {
+        match self.processes.take(pid, room) {
+            Some(Taken::Dies(signal)) => {
+                let raised = self.end(pid, End::Signal(signal));
+                Took {
+                    taken: Some(Taken::Dies(signal)),
+                    raised,
+                }
+            }
+            taken => Took {
+                taken,
+                raised: None,
+            },
+        }
+    }
+
+    /// Raises a signal at a process. True exactly where it is live, does not ignore the signal, and can take a signal afterwards.
+    pub fn raise(&mut self, pid: u32, signal: u8) -> bool
+        ensures is { self.new ≡ with_raised self.old pid signal }
+        ensures poked { result ≡ is_poked self.old pid signal }
+    {
+        let heeds = self.processes.heeding(pid, signal).is_some();
+        self.processes.raise(pid, signal);
+        heeds && self.processes.deliverable(pid).is_some()
+    }
+
+    /// The lowest signal that a process can take. None exactly where it is not live or can take none.
+    pub fn deliverable(&self, pid: u32) -> Option<u8>
+        ensures { result ≡ deliverable self.now pid }
+    {
+        self.processes.deliverable(pid)
     }
 
     /// How a process ended: None where it is live or was never given.
     pub fn ended(&self, pid: u32) -> Option<End>
         ensures { result ≡ end_at self.now pid }
     {
-        if pid == 0 {
-            return None;
-        }
-        match self.ends.get(pid as usize - 1) {
-            Some(end) => *end,
-            None => None,
-        }
+        self.processes.ended(pid)
     }
 
     /// Whether a process was given and has not ended.
     pub fn live(&self, pid: u32) -> bool
-        ensures is { result ≡ is_live self.now pid }
-        ensures bounds { IsTrue result → (1 ≤ pid) × (pid ≤ given self.now) }
-        ensures live { IsTrue result → IsLive self.now pid }
+        ensures { result ≡ is_live self.now pid }
     {
-        if pid == 0 {
-            return false;
-        }
-        match self.ends.get(pid as usize - 1) {
-            Some(None) => true,
-            Some(Some(_)) => false,
-            None => false,
-        }
+        self.processes.live(pid)
     }
 
     /// How many pids were given.
-    pub fn given(&self) -> usize
+    pub fn given(&self) -> u32
         ensures { result ≡ given self.now }
     {
-        self.ends.len()
-    }
-
-    /// How the processes ended, from pid 1 on.
-    pub fn ends(&self) -> &[Option<End>]
-        ensures is { result.now ≡ self.now.ends }
-        ensures few { length result.now < 32768 }
-    {
-        self.ends.as_slice()
+        self.processes.given()
     }
 
     /// More is typed at the terminal. After the end of the input nothing changes, nor at want of memory.

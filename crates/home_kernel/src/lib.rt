@@ -1,15 +1,18 @@
-// The kernel at the home: files, descriptors, the terminal and the ends of processes, and all calls on them.
+// The kernel at the home: files, descriptors, pipes, the terminal, and processes with their signals, and all calls on them.
 #![tactic(auto)]
 
 mod answers;
 mod flags;
 mod io;
 mod kernel;
+mod masks;
 mod names;
 mod places;
+mod processes;
 mod terminal;
 #[cfg(test)]
 mod tests;
 mod typed;
 
-pub use kernel::{Kernel, Served, is_built};
+pub use answers::Served;
+pub use kernel::{Kernel, Took};

@@ -1,7 +1,7 @@
 -- Lists by pid.
 use Rattle.std.proofs.Common.{◌≡◌, ℕ, zero, suc, ◌-◌, ◌≤◌, List, length, slice_set, Option, Some, slice_get, refl, ap, sym, ◌∙◌, arith}
 use Rattle.std.proofs.lemmas.List.{length-set}
-use Rattle.kernel_spec.specs.Processes.{at_pid, set_pid}
+use Rattle.kernel_spec.specs.Pids.{at_pid, set_pid}
 
 pub length-set_pid : {A : Type 0} (xs : List A) (pid : ℕ) (x : A) → length (set_pid xs pid x) ≡ length xs
 length-set_pid xs zero x = refl

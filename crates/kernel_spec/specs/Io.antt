@@ -1,22 +1,29 @@
 -- Files and descriptors, and the calls on them alone.
-use Rattle.std.specs.Prelude.{ℕ, zero, suc, ◌+◌, ◌-◌, ◌/◌, ◌%◌, ◌^◌, List, [], Option, Some, None, ◌==◌, ◌&&◌, ◌||◌, not, if◌then◌else◌, nat_le, nat_lt, length, ℤ, pos, Bool}
+use Rattle.std.specs.Int.{to_le_bytes, w32}
+use Rattle.pipe_table.specs.Table.{free_id, created}
+use Rattle.std.specs.Prelude.{slice_set, ◌++◌, ℕ, zero, suc, ◌+◌, ◌-◌, ◌/◌, ◌%◌, ◌^◌, List, [], Option, Some, None, ◌==◌, ◌&&◌, ◌||◌, not, if◌then◌else◌, nat_le, nat_lt, length, ℤ, pos, Bool}
 use Rattle.std.specs.List.{list_all}
 use Rattle.std.specs.Option.{option_and_then}
 use Rattle.id_table.specs.Places.{at_id, lowest_free, filled, changed, edited}
 use Rattle.fs_memory.specs.Files.{FileTable, id_called, named_count, content_of, new_file, held, released, emptied, after_unlink}
-use Rattle.fd_table.specs.Descriptors.{FdTable, no_processes, look_at, slots_at, free_count, counted, lowest_fd, added, sought, duplicated, closed, last_target}
+use Rattle.fd_table.specs.Descriptors.{FdTable, Descriptions, no_processes, end_count, look_at, slots_at, free_count, counted, lowest_fd, added, sought, duplicated, closed, last_target}
 use Rattle.fd_table.specs.declared.description.Look.{Look}
 use Rattle.fd_table.specs.declared.description.Target.{Target}
 use Rattle.fd_table.specs.declared.description.Target.TheVariants.{TermIn, TermOut, File, ReadEnd, WriteEnd}
 use Rattle.call_table.specs.declared.limit.TheConstants.{NAMED_FILES, FILE_BYTES, NAME_BYTES, DESCRIPTIONS, DESCRIPTORS}
 use Rattle.call_table.specs.declared.error.TheConstants.{ENOENT, EBADF, EEXIST, EINVAL, ENFILE, EMFILE, ENOSPC, ESPIPE, ENAMETOOLONG}
 
+-- of each pipe its bytes, oldest first
+abbrev pub PipeTable : Type 0
+PipeTable = List (Option (List ℕ))
+
 pub record IoState : Type 0 where
   pub files : FileTable
   pub fds : FdTable
+  pub pipes : PipeTable
 
 abbrev pub no_files : IoState
-no_files = record { files = []; fds = no_processes }
+no_files = record { files = []; fds = no_processes; pipes = [] }
 
 -- what a call leaves, and its value
 pub record IoDone : Type 0 where
@@ -69,7 +76,7 @@ room_error fds pid =
 
 -- a file is held under the lowest free descriptor
 abbrev pub with_open : IoState → ℕ → ℕ → ℕ → IoState
-with_open io pid id rights = record { files = changed io.files id held; fds = added io.fds pid (File id) rights }
+with_open io pid id rights = record io { files = changed io.files id held; fds = added io.fds pid (File id) rights }
 
 abbrev pub opened : IoState → ℕ → ℕ → ℕ → IoDone
 opened io pid id flags = gives (with_open io pid id (flags % 4)) (lowest_fd io.fds pid)
@@ -113,8 +120,28 @@ after_last (Some TermOut) files = files
 after_last (Some (ReadEnd pipe)) files = files
 after_last (Some (WriteEnd pipe)) files = files
 
+-- how many ends of a pipe are held
+abbrev pub held_ends : ℕ → Descriptions → ℕ
+held_ends pipe descriptions = end_count (ReadEnd pipe) descriptions + end_count (WriteEnd pipe) descriptions
+
+-- a pipe goes where no end of it is held
+abbrev pub unless_held : ℕ → Descriptions → PipeTable → PipeTable
+unless_held pipe descriptions pipes = if held_ends pipe descriptions == 0 then slice_set pipes pipe None else pipes
+
+abbrev pub pipes_after : Option Target → Descriptions → PipeTable → PipeTable
+pipes_after None descriptions pipes = pipes
+pipes_after (Some (File id)) descriptions pipes = pipes
+pipes_after (Some TermIn) descriptions pipes = pipes
+pipes_after (Some TermOut) descriptions pipes = pipes
+pipes_after (Some (ReadEnd pipe)) descriptions pipes = unless_held pipe descriptions pipes
+pipes_after (Some (WriteEnd pipe)) descriptions pipes = unless_held pipe descriptions pipes
+
 abbrev pub with_close : IoState → ℕ → ℕ → IoState
-with_close io pid fd = record { files = after_last (last_target io.fds pid fd) io.files; fds = closed io.fds pid fd }
+with_close io pid fd = record {
+  files = after_last (last_target io.fds pid fd) io.files;
+  fds = closed io.fds pid fd;
+  pipes = pipes_after (last_target io.fds pid fd) (closed io.fds pid fd).descriptions io.pipes;
+}
 
 abbrev pub close_at : Option Look → IoState → ℕ → ℕ → IoDone
 close_at None io pid fd = fails io EBADF
@@ -196,3 +223,48 @@ unlink_called (Some id) io = gives (record io { files = after_unlink (Some id) i
 
 abbrev pub unlink_result : IoState → ℕ → List ℕ → IoDone
 unlink_result io len name = unless (name_error len name) io (unlink_called (id_called name io.files) io)
+
+-- ---- pipe
+
+-- two descriptors and two descriptions more, the first to read and the second to write
+abbrev pub with_ends : FdTable → ℕ → ℕ → FdTable
+with_ends fds pid pipe = added (added fds pid (ReadEnd pipe) 1) pid (WriteEnd pipe) 2
+
+-- the two descriptors
+abbrev pub read_fd : FdTable → ℕ → ℕ
+read_fd fds pid = lowest_fd fds pid
+
+abbrev pub write_fd : FdTable → ℕ → ℕ → ℕ
+write_fd fds pid pipe = lowest_fd (added fds pid (ReadEnd pipe) 1) pid
+
+abbrev pub ends_error : FdTable → ℕ → Option ℤ
+ends_error fds pid =
+    if nat_lt (free_count (slots_at fds.processes pid)) 2 then Some EMFILE else
+    (if nat_lt (DESCRIPTIONS - 2) (counted fds.descriptions) then Some ENFILE else None)
+
+-- what a call leaves, its value and its bytes
+pub record IoGiven : Type 0 where
+  pub io : IoState
+  pub value : ℤ
+  pub bytes : List ℕ
+
+abbrev pub refuses : IoState → ℤ → IoGiven
+refuses io error = record { io = io; value = error; bytes = [] }
+
+abbrev pub with_pipe : IoState → ℕ → ℕ → IoState
+with_pipe io pid pipe = record io { fds = with_ends io.fds pid pipe; pipes = created io.pipes (Some pipe) }
+
+abbrev pub pipe_to : Option ℕ → IoState → ℕ → IoGiven
+pipe_to None io pid = refuses io ENFILE
+pipe_to (Some pipe) io pid = record {
+  io = with_pipe io pid pipe;
+  value = pos 0;
+  bytes = to_le_bytes w32 (read_fd io.fds pid) ++ to_le_bytes w32 (write_fd io.fds pid pipe);
+}
+
+abbrev pub pipe_unless : Option ℤ → IoState → ℕ → IoGiven
+pipe_unless (Some error) io pid = refuses io error
+pipe_unless None io pid = pipe_to (free_id io.pipes) io pid
+
+abbrev pub pipe_result : IoState → ℕ → IoGiven
+pipe_result io pid = pipe_unless (ends_error io.fds pid) io pid

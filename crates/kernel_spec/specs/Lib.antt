@@ -1,3 +1,4 @@
+pub mod Pids
 pub mod Processes
 pub mod Io
 pub mod Kernel

@@ -1,11 +1,13 @@
 -- The places of pipes.
-use Rattle.std.proofs.Common.{◌≡◌, ◌⊎◌, inl, inr, ℕ, ◌+◌, ◌<◌, ◌≤◌, zero, suc, true, not, nat_lt, cond, List, [], ◌∷◌, ◌++◌, length, set, get_or, Option, Some, None, is_some, is_none, unwrap_or, refl, sym, ◌∙◌, ap, subst, arith}
-use Rattle.std.specs.List.{position, position_or_len}
+use Rattle.std.proofs.Common.{◌≡◌, ◌⊎◌, inl, inr, ℕ, ◌+◌, ◌<◌, ◌≤◌, zero, suc, true, not, nat_lt, cond, List, [], ◌∷◌, ◌++◌, length, take, set, get_or, Option, Some, None, is_some, is_none, unwrap_or, refl, sym, ◌∙◌, ap, subst, arith}
+use Rattle.std.specs.List.{All, position, position_or_len}
+use Rattle.std.proofs.Math.Seq.{take-length}
+use Rattle.std.proofs.lemmas.List.{length-take}
 use Rattle.std.specs.Option.{option_map}
 use Rattle.std.proofs.lemmas.Bool.{cases_lt, lt-ltb, le-ltb, ltb-true, cond-true, cond-false}
 use Rattle.std.proofs.lemmas.Option.{cond_some, slice_get_read}
 use Rattle.std.proofs.lemmas.List.{length-set, length_push}
-use Rattle.std.proofs.lemmas.List.Elements.{All-set, All-push}
+use Rattle.std.proofs.lemmas.List.Elements.{All-set, All-push, All-take}
 use Rattle.std.proofs.lemmas.List.Sums.{sum_by-cons, count_by-le-length, prefix_len-le-length}
 use Rattle.pipe_table.specs.Table.{pipe_in, pipe_at, pipe_count, free_id, with_pipe, changed_at, IsPipe, IsWithinLimits}
 
@@ -127,3 +129,17 @@ add_push pipes grown first pipe e past empty pushed =
 
 pub limits_created : (pipes grown : List (Option (List ℕ))) (id : ℕ) → IsWithinLimits pipes → free_id pipes ≡ Some id → grown ≡ with_pipe pipes → IsWithinLimits grown
 limits_created pipes grown id limits given added = subst IsWithinLimits (sym added) (limits_added pipes limits (few_pipes pipes id given))
+
+all_take : (n : ℕ) (pipes : List (Option (List ℕ))) → All IsPipe pipes → All IsPipe (take n pipes)
+all_take n pipes h = All-take IsPipe n pipes h
+
+pub limits_take : (n : ℕ) (pipes : List (Option (List ℕ))) → IsWithinLimits pipes → IsWithinLimits (take n pipes)
+limits_take n pipes limits = record { count = omega (arith, limits.count, length-take n pipes); bytes = all_take n pipes limits.bytes }
+
+-- the pipe that was made last is taken back
+pub undone_pipe : (pipes : List (Option (List ℕ))) → take (length pipes) (set (with_pipe pipes) (first_free pipes) None) ≡ pipes
+undone_pipe [] = refl
+undone_pipe (None ∷ pipes) = ap (λ rest. None ∷ rest) (take-length pipes)
+undone_pipe (Some bytes ∷ pipes) =
+    let e : 1 + first_free pipes ≡ suc (first_free pipes) = omega arith in
+    rw e (ap (λ rest. Some bytes ∷ rest) (undone_pipe pipes))

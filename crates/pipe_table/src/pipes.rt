@@ -87,6 +87,22 @@ impl Pipes {
         Ok(bytes)
     }
 
+    /// How many ids there are places for.
+    pub fn places(&self) -> usize
+        ensures { result ≡ length self.now }
+    {
+        self.slots.len()
+    }
+
+    /// Removes a pipe and shortens the table to so many places. It undoes a `create` in a table of that length.
+    pub fn take_back(&mut self, id: u32, places: usize)
+        ensures new { self.new ≡ take places (slice_set self.old id None) }
+        ensures limits { IsWithinLimits self.new }
+    {
+        self.remove(id);
+        self.slots.truncate(places);
+    }
+
     /// Removes the pipe with the bytes that it holds.
     pub fn remove(&mut self, id: u32)
         ensures new { self.new ≡ slice_set self.old id None }

@@ -1,4 +1,6 @@
 -- What an end and a wait change.
+use Rattle.std.proofs.Math.Seq.{take-append_seam}
+use Rattle.std.proofs.Common.{◌-◌, take}
 use Rattle.std.proofs.Common.{◌≡◌, inl, inr, ℕ, ◌+◌, ◌<◌, ◌≤◌, zero, suc, true, false, ◌==◌, ◌&&◌, nat_lt, nat_le, cond, List, [], ◌∷◌, ◌++◌, map, length, set, Some, None, slice_get, refl, sym, ◌∙◌, ap, arith}
 use Rattle.std.specs.Option.{option_map, option_map_or}
 use Rattle.std.proofs.lemmas.Bool.{cases_Bool, and_parts, false≢true, cond_both, ltb-true, leb-true}
@@ -131,3 +133,18 @@ kept_added xs ys present kept parent pid before next grown listed =
       listed ∙ ap (λ p. p ++ pid ∷ []) before.0 ∙ ap (λ n. present_from 1 xs ++ n ∷ []) (sym pid_is) ∙ sym all,
       record { present = omega (arith, count, room.0); pids = omega (arith, len, room.1, last) },
     )
+
+-- the same after the newest, a live child, was taken back
+pub taken_back : (xs ys : List Process) (present kept : List ℕ) (parent : ℕ) → (present ≡ present_from 1 xs) × IsWithinLimits xs → xs ≡ take (length xs - 1) xs ++ record { parent = parent; state = Live } ∷ [] → ys ≡ take (length xs - 1) xs → kept ≡ take (length present - 1) present → (kept ≡ present_from 1 ys) × IsWithinLimits ys
+taken_back xs ys present kept parent before last short fewer =
+    let child : Process = record { parent = parent; state = Live } in
+    let grown : xs ≡ ys ++ child ∷ [] = last ∙ ap (λ t. t ++ child ∷ []) (sym short) in
+    let all : present ≡ present_from 1 ys ++ (1 + length ys) ∷ [] = before.0 ∙ ap (present_from 1) grown ∙ present_from-append 1 ys child refl in
+    let len : length (present_from 1 ys ++ (1 + length ys) ∷ []) ≡ length (present_from 1 ys) + 1 = length_push (present_from 1 ys) (1 + length ys) in
+    let n : length present - 1 ≡ length (present_from 1 ys) = omega (arith, len, ap length all) in
+    let listed : kept ≡ present_from 1 ys = fewer ∙ ap (λ m. take m present) n ∙ ap (take (length (present_from 1 ys))) all ∙ take-append_seam (present_from 1 ys) ((1 + length ys) ∷ []) in
+    let len_ys : length (ys ++ child ∷ []) ≡ length ys + 1 = length_push ys child in
+    let count : present_count (ys ++ child ∷ []) ≡ present_count ys + 1 = count_push ys child refl in
+    let count_xs : present_count xs ≡ present_count ys + 1 = ap present_count grown ∙ count in
+    let len_xs : length xs ≡ length ys + 1 = ap length grown ∙ len_ys in
+    (listed, record { present = omega (arith, count_xs, before.1.present); pids = omega (arith, len_xs, before.1.pids) })

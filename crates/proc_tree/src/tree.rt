@@ -1,5 +1,5 @@
 // The tree of processes.
-ghost use Rattle.std.specs.Prelude.{◌≡◌, [], true, Some, IfOk, OnErr, IfSome, length};
+ghost use Rattle.std.specs.Prelude.{◌≡◌, ◌-◌, ◌++◌, ◌∷◌, [], true, Some, IfOk, OnErr, IfSome, length, take};
 ghost use Rattle.proc_tree.specs.Tree.{at_pid, parent_of, live_at, zombie_at, ended_at, next_pid_of, with_child, has_child_of, lowest_zombie, with_end, reaped, IsWithinLimits};
 
 use crate::process::{Process, State, end_state};
@@ -71,6 +71,16 @@ impl Tree {
         };
         append(&mut self.processes, &mut self.present, child, pid)?;
         Ok(Some(pid))
+    }
+
+    /// Takes the newest process back, a live child of `parent`. It undoes a `new_child`.
+    pub fn take_back(&mut self, parent: u32)
+        requires { self.old ≡ take (length self.old - 1) self.old ++ record { parent = parent; state = State.Live } ∷ [] }
+        ensures new { self.new ≡ take (length self.old - 1) self.old }
+        ensures limits { IsWithinLimits self.new }
+    {
+        let _ = self.processes.pop();
+        let _ = self.present.pop();
     }
 
     /// Ends a live process. It is a zombie where its parent lives, else it is gone. Its live children have no parent then, its zombie

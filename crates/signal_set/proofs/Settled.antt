@@ -1,8 +1,8 @@
 -- What holds of the signals of a process at every moment.
-use Rattle.std.proofs.Common.{◌≡◌, ℕ, ◌/◌, ◌%◌, ◌^◌, ◌==◌, zero, suc, min, Bool, true, false, cond, bit_or, List, [], ◌∷◌, set, replicate, Option, Some, IsSome, slice_get, unwrap_or, refl, sym, ◌∙◌, ap, arith}
+use Rattle.std.proofs.Common.{◌≡◌, ℕ, ◌/◌, ◌%◌, ◌^◌, ◌<◌, ◌==◌, zero, suc, min, Bool, true, false, cond, bit_or, List, [], ◌∷◌, set, replicate, Option, Some, IsSome, slice_get, unwrap_or, refl, sym, ◌∙◌, ap, arith}
 use Rattle.std.specs.List.{find}
 use Rattle.std.proofs.lemmas.Bool.{and_from, not_from_false, false≢true}
-use Rattle.std.proofs.lemmas.Nat.{and_assoc}
+use Rattle.std.proofs.lemmas.Nat.{and_assoc, and_le_r}
 use Rattle.std.proofs.lemmas.Nat.Bits.{bit_at_and}
 use Rattle.signal_set.specs.declared.act.Act.{Act}
 use Rattle.signal_set.specs.declared.act.Act.TheVariants.{Default, Ignore, Handler}
@@ -59,3 +59,7 @@ found_among p a b c s xs h =
 pub kill_deliverable : (state : SignalState) → IsSettled state → is_pending state 9 ≡ true → IsSome (lowest_deliverable state)
 kill_deliverable state settled h =
     found_among (is_deliverable state) 2 4 5 9 (10 ∷ 11 ∷ 12 ∷ 13 ∷ 15 ∷ 17 ∷ 24 ∷ []) (and_from _ _ h (not_from_false _ (kill_unmasked state settled)))
+
+-- a mask has no bit above that of 24
+pub small_mask : (mask : ℕ) → kept_bits mask ≡ mask → mask < 2 ^ 25
+small_mask mask kept = omega (arith, kept, and_le_r mask maskable)

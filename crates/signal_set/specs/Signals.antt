@@ -61,6 +61,10 @@ abbrev pub with_act : SignalState → ℕ → Act → SignalState
 with_act state signal act =
     record { pending = pending_under act signal state.pending; mask = state.mask; acts = slice_set state.acts signal act }
 
+-- a signal that is pending no longer
+abbrev pub without_signal : ℕ → SignalState → SignalState
+without_signal signal state = record state { pending = slice_set state.pending signal false }
+
 -- the mask while a handler runs gains its signal
 abbrev pub mask_after : Act → ℕ → ℕ → ℕ
 mask_after (Handler entry restorer) signal mask = kept_bits (bit_or mask (2 ^ signal))

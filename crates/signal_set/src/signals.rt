@@ -1,7 +1,7 @@
 // The signals of one process.
-ghost use Rattle.std.specs.Prelude.{◌≡◌, ◌<◌, ◌^◌, true, false, bit_or, IsSome, IfSome, Some, slice_set};
+ghost use Rattle.std.specs.Prelude.{◌≡◌, ◌<◌, ◌^◌, true, false, not, bit_or, IsSome, IfSome, Some, slice_set};
 ghost use Rattle.signal_set.specs.Acts.{ignores, taken_by};
-ghost use Rattle.signal_set.specs.Signals.{no_signals, child_signals, act_of, is_pending, is_deliverable, lowest_deliverable, pending_with, pending_under, raised, with_act, kept_bits, mask_after, take_signal};
+ghost use Rattle.signal_set.specs.Signals.{no_signals, child_signals, act_of, is_pending, is_deliverable, lowest_deliverable, pending_with, pending_under, raised, with_act, kept_bits, mask_after, without_signal, take_signal};
 
 use crate::act::{Act, is_ignored, taken_by};
 use call_table::Taken;
@@ -72,6 +72,13 @@ impl Signals {
         }
     }
 
+    /// Whether `signal` is not ignored.
+    pub fn heeds(&self, signal: u8) -> bool
+        ensures { result ≡ not (ignores (act_of self.now signal) signal) }
+    {
+        !is_ignored(self.act(signal), signal)
+    }
+
     /// Makes `signal` pending, unless it is ignored.
     pub fn raise(&mut self, signal: u8)
         ensures { self.new ≡ raised self.old signal }
@@ -125,6 +132,13 @@ impl Signals {
         taken
     }
 
+    /// Makes `signal` pending no longer.
+    pub fn forget(&mut self, signal: u8)
+        ensures { self.new ≡ without_signal signal self.old }
+    {
+        write(&mut self.pending, signal, false);
+    }
+
     /// Sets the action for `signal`. A signal that it ignores is no longer pending.
     pub fn set_act(&mut self, signal: u8, act: Act)
         ensures { self.new ≡ with_act self.old signal act }
@@ -136,6 +150,7 @@ impl Signals {
     /// Sets the mask, of which bit s stands for signal s, and answers the old one. Bits of 9 and of numbers that are no signal are dropped.
     pub fn set_mask(&mut self, new: u32) -> u32
         ensures old { result ≡ self.old.mask }
+        ensures small { result < 2 ^ 25 }
         ensures mask { self.new ≡ record self.old { mask = kept_bits new } }
     {
         let old = self.mask;
