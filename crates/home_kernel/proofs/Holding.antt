@@ -5,12 +5,12 @@ use Rattle.id_table.specs.Places.{at_id, lowest_free, filled, changed, edited, w
 use Rattle.id_table.proofs.ShortLemmas.{undone}
 use Rattle.fs_memory.specs.Files.{FileTable, holders_of, new_file, held, released, emptied, rewritten, after_unlink}
 use Rattle.fs_memory.proofs.HolderLemmas.{one_at, one_at_same, holders_some, holders_held, holders_emptied, some_emptied, holders_rewritten, holders_released, holders_unlinked, holders_created}
-use Rattle.fd_table.specs.Descriptors.{FdTable, slots_at, free_count, counted, end_count, added, sought, closed, last_target}
+use Rattle.fd_table.specs.Descriptors.{FdTable, slots_at, free_count, counted, end_count, same_target, added, sought, closed, last_target}
 use Rattle.fd_table.specs.declared.description.Target.{Target}
 use Rattle.fd_table.specs.declared.description.Target.TheVariants.{TermIn, TermOut, File, ReadEnd, WriteEnd}
 use Rattle.fd_table.proofs.EndLemmas.{HasTerminals, ends_gone, end_count_added, end_count_sought, end_count_closed_file, end_count_most, sought_targets, terminals_added, terminals_closed}
 use Rattle.call_table.specs.declared.error.TheConstants.{EMFILE, ENFILE}
-use Rattle.kernel_spec.specs.Io.{room_error, truncated_files, has_flag, after_last}
+use Rattle.kernel_spec.specs.Io.{room_error, truncated_files, has_flag, after_last, with_ends}
 use Rattle.home_kernel.specs.Rules.{IsIo, HaveHolders, IsHeldOnce}
 
 terminals : (files : FileTable) (fds : FdTable) → IsIo files fds → HasTerminals fds.descriptions
@@ -95,3 +95,17 @@ closed_io files fds pid fd h =
       input = t.input;
       output = t.output;
     }
+
+-- one description more that is no file's
+other_added : (files : FileTable) (fds : FdTable) (pid rights : ℕ) (target : Target) → ((id : ℕ) → same_target target (File id) ≡ false) → IsIo files fds → IsIo files (added fds pid target rights)
+other_added files fds pid rights target no_file h =
+    let t = terminals_added fds pid target rights (terminals files fds h) in
+    record {
+      holders = λ id. let none : cond (same_target target (File id)) 1 0 ≡ 0 = ap (λ (b : Bool). let one : ℕ = 1 in cond b one 0) (no_file id) in omega (arith, h.holders id, end_count_added (File id) fds pid target rights, none);
+      input = t.input;
+      output = t.output;
+    }
+
+pub paired_io : (files : FileTable) (fds : FdTable) (pid pipe : ℕ) → IsIo files fds → IsIo files (with_ends fds pid pipe)
+paired_io files fds pid pipe h =
+    other_added files (added fds pid (ReadEnd pipe) 1) pid 2 (WriteEnd pipe) (λ id. refl) (other_added files fds pid 1 (ReadEnd pipe) (λ id. refl) h)

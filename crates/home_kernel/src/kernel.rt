@@ -203,13 +203,7 @@ impl Kernel {
     }
 
     /// A read of a descriptor.
-    fn read(
-        &mut self,
-        alloc: Global,
-        pid: u32,
-        fd: u32,
-        len: u32,
-    ) -> Result<Served, NoMemory>
+    fn read(&mut self, alloc: Global, pid: u32, fd: u32, len: u32) -> Result<Served, NoMemory>
         ensures ok { IfOk result (λ served. Serves served (read_result self.old pid fd len) self.old self.new) }
         ensures err { OnErr result (self.new ≡ self.old) }
     {
@@ -265,13 +259,7 @@ impl Kernel {
     }
 
     /// A write to a descriptor.
-    fn write(
-        &mut self,
-        alloc: Global,
-        pid: u32,
-        fd: u32,
-        bytes: &[u8],
-    ) -> Result<Served, NoMemory>
+    fn write(&mut self, alloc: Global, pid: u32, fd: u32, bytes: &[u8]) -> Result<Served, NoMemory>
         ensures ok { IfOk result (λ served. Serves served (write_result self.old pid fd bytes.now) self.old self.new) }
         ensures err { OnErr result (self.new ≡ self.old) }
     {
