@@ -1,4 +1,14 @@
 -- What holds of every kernel, after each change of it.
+use Rattle.std.proofs.Common.{nat_lt, nat_le, ◌&&◌, cond}
+use Rattle.std.specs.Option.{option_map}
+use Rattle.std.proofs.lemmas.Option.{cond_some}
+use Rattle.call_table.specs.declared.limit.TheConstants.{PROCESSES}
+use Rattle.call_table.specs.declared.request.Taken.{Taken}
+use Rattle.proc_tree.specs.declared.process.Process.{Process}
+use Rattle.proc_tree.specs.Tree.{next_pid_of, present_count, last_pid}
+use Rattle.kernel_spec.specs.Processes.{take_at}
+use Rattle.kernel_spec.specs.Kernel.{take_result, after_taken, after_took}
+use Rattle.home_kernel.specs.Taking.{TakesAt}
 use Rattle.std.proofs.Common.{◌≡◌, ◌≢◌, ◌⊎◌, inl, inr, ◌+◌, ◌-◌, ◌<◌, ◌≤◌, ℕ, Bool, true, false, List, [], ◌∷◌, ◌++◌, length, take, Option, Some, None, is_some, IsSome, refl, sym, ap, subst, ◌∙◌, arith}
 use Rattle.std.proofs.lemmas.Bool.{cases_eq}
 use Rattle.std.proofs.lemmas.List.{get_or_past, length_push}
@@ -69,3 +79,12 @@ taken_back xs ys x e =
     let len : length (xs ++ x ∷ []) ≡ length xs + 1 = length_push xs x in
     let n : length ys - 1 ≡ length xs = omega (arith, len, ap length e) in
     ap (λ m. take m ys) n ∙ ap (take (length xs)) e ∙ take-append_seam xs (x ∷ [])
+
+-- the pid of a process that joins is the next
+pub next_is : (tree : List Process) (parent pid : ℕ) → next_pid_of tree parent ≡ Some pid → length tree + 1 ≡ pid
+next_is tree parent pid h = (cond_some (nat_lt (present_count tree) PROCESSES && nat_le (length tree + 1) (last_pid parent)) (length tree + 1) pid h).1
+
+-- a signal that was taken, as a step of the kernel
+pub taken_result : (k : KernelState) (p : ProcessTable) (pid : ℕ) (room : Bool) (taken : Taken) → TakesAt (Some taken) k.processes pid (take_at k.processes pid room) p → take_result k pid room ≡ Some (after_taken (record k { processes = p }) pid taken)
+taken_result k p pid room taken h =
+    ap (option_map (after_took k pid)) h.1 ∙ ap (λ (q : ProcessTable). Some (after_taken (record k { processes = q }) pid taken)) (sym h.2)

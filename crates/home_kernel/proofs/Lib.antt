@@ -1,3 +1,5 @@
 mod Holding
 mod Growing
 mod Closing
+mod Taken
+mod Piping

@@ -1,5 +1,6 @@
 // Answers of calls.
 ghost use Rattle.std.specs.Prelude.{◌≡◌, ◌≤◌, None, length, IfOk};
+ghost use Rattle.std.specs.Int.{w32, cast_signed};
 ghost use Rattle.kernel_spec.specs.Kernel.{value_answer};
 ghost use Rattle.kernel_spec.specs.Processes.{status_number, status_bytes};
 ghost use Rattle.kernel_spec.specs.Calls.{bytes_answer, fork_answer};
@@ -49,6 +50,17 @@ pub fn fork_answer(alloc: Global, child: u32) -> Answer
         value: child as i32,
         bytes: Bytes::new(alloc),
         kind: Kind::Fork,
+    }
+}
+
+/// The answer of a wait: the pid of a child, and the bytes that tell how it ended.
+pub fn child_answer(child: u32, bytes: Bytes) -> Answer
+    ensures { result ≡ record { value = cast_signed w32 child; bytes = bytes; kind = Kind.Plain } }
+{
+    Answer {
+        value: child.cast_signed(),
+        bytes,
+        kind: Kind::Plain,
     }
 }
 

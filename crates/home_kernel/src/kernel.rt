@@ -1,15 +1,18 @@
 // The kernel: all calls, the signals and the ends of processes.
-ghost use Rattle.std.specs.Prelude.{◌≡◌, ◌+◌, ◌-◌, ◌<◌, ◌≤◌, Some, None, true, false, IsTrue, IsSome, OnErr, OnOk, IfOk, length, is_some, is_none};
+ghost use Rattle.std.specs.Prelude.{◌≡◌, ℕ, ◌+◌, ◌-◌, ◌<◌, ◌≤◌, Some, None, true, false, IsTrue, IsSome, OnErr, OnOk, IfOk, length, is_some, is_none};
 ghost use Rattle.id_table.specs.Places.{at_id};
 ghost use Rattle.fs_memory.specs.Files.{named_files};
 ghost use Rattle.fd_table.specs.Descriptors.{look_at};
+ghost use Rattle.proc_tree.specs.Tree.{zombie_at};
 ghost use Rattle.kernel_spec.specs.Io.{open_result, close_result, seek_result, dup_result, unlink_result, pipe_result};
 ghost use Rattle.kernel_spec.specs.Processes.{kill_result, sigact_result, sigmask_result};
-ghost use Rattle.kernel_spec.specs.Kernel.{KernelState, no_process, given, end_at, is_live, has_room, answers, answers_io, answers_done, value_answer, deliverable, with_end, exited, raised_by_end, with_raised, take_result, fed};
-ghost use Rattle.kernel_spec.specs.Calls.{call_result, read_input, read_pipe, read_result, write_file, write_terminal, write_pipe, write_result, fork_result, wait_result, sigreturn_result, answers_given};
+ghost use Rattle.kernel_spec.specs.Kernel.{KernelState, no_process, given, end_at, is_live, has_room, answers, answers_io, answers_done, value_answer, deliverable, with_end, exited, raised_by_end, with_raised, after_taken, take_result, fed};
+ghost use Rattle.kernel_spec.specs.Calls.{call_result, read_in, write_in, wait_answer, without_zombie, read_input, read_pipe, read_result, write_file, write_terminal, write_pipe, write_result, fork_result, wait_result, sigreturn_result, answers_given};
 ghost use Rattle.home_kernel.specs.Serving.{Serves, Launches, IsLive, Takes, is_poked};
 
-use crate::answers::{Served, bytes_answer, done, fork_answer, status_bytes, value, value_answer};
+use crate::answers::{
+    Served, bytes_answer, child_answer, done, fork_answer, status_bytes, value, value_answer,
+};
 use crate::io::Io;
 use crate::processes::Processes;
 use crate::terminal::show;
@@ -133,6 +136,19 @@ impl Kernel {
         }
     }
 
+    /// Takes a zombie out, and tells how it ended.
+    fn reap(&mut self, alloc: Global, child: u32, status: u32) -> Result<Answer, NoMemory>
+        requires { zombie_at self.old.processes.tree child ≡ true }
+        ensures answer { IfOk result (λ answer. answer ≡ wait_answer self.old child status) }
+        ensures ok { OnOk result (self.new ≡ without_zombie self.old child) }
+        ensures err { OnErr result (self.new ≡ self.old) }
+    {
+        let end = self.processes.ended(child);
+        let bytes = status_bytes(alloc, status, end)?;
+        self.processes.reap(child);
+        Ok(child_answer(child, bytes))
+    }
+
     /// The lowest zombie child, which goes. Without one a process with children waits.
     fn wait(&mut self, alloc: Global, pid: u32, status: u32) -> Result<Served, NoMemory>
         ensures ok { IfOk result (λ served. Serves served (wait_result self.old pid status) self.old self.new) }
@@ -140,13 +156,8 @@ impl Kernel {
     {
         match self.processes.zombie_of(pid) {
             Some(child) => {
-                let bytes = status_bytes(alloc, status, self.processes.ended(child))?;
-                self.processes.reap(child);
-                Ok(done(Answer {
-                    value: child as i32,
-                    bytes,
-                    kind: Kind::Plain,
-                }))
+                let answer = self.reap(alloc, child, status)?;
+                Ok(done(answer))
             }
             None => {
                 if self.processes.has_child(pid) {
@@ -402,7 +413,7 @@ impl Kernel {
         let (a, b, c) = (request.args[0], request.args[1], request.args[2]);
         match request.number {
             EXIT => Ok(self.exit(alloc, pid, a)),
-            GETPPID => Ok(value(alloc, self.processes.parent(pid) as i32)),
+            GETPPID => Ok(value(alloc, self.processes.parent(pid).cast_signed())),
             FORK => Ok(self.fork(alloc, pid)?),
             WAIT => Ok(self.wait(alloc, pid, a)?),
             OPEN => Ok(self.open(alloc, pid, b, request.bytes.as_slice(), c)?),
@@ -419,6 +430,88 @@ impl Kernel {
             SIGMASK => Ok(self.sigmask(alloc, pid, a)),
             YIELD => Ok(value(alloc, 0)),
             _ => Ok(value(alloc, ENOSYS)),
+        }
+    }
+
+    /// Whether a wait would block.
+    fn wait_blocks(&self, pid: u32) -> bool
+        ensures { (status : ℕ) → result ≡ is_none (wait_result self.now pid status) }
+    {
+        self.processes.zombie_of(pid).is_none() && self.processes.has_child(pid)
+    }
+
+    /// Whether a read of what a descriptor stands for would block.
+    fn read_in_blocks(&self, pid: u32, fd: u32, look: Look, len: u32) -> bool
+        ensures { result ≡ is_none (read_in look.target look.offset self.now pid fd len) }
+    {
+        match look.target {
+            Target::File(_) => false,
+            Target::TermIn => self.typed.len() == 0 && !self.typed.has_ended(),
+            Target::TermOut => false,
+            Target::ReadEnd(pipe) => {
+                self.io.piped(pipe) == 0 && self.io.ends(Target::WriteEnd(pipe)) != 0
+            }
+            Target::WriteEnd(_) => false,
+        }
+    }
+
+    /// Whether a read would block.
+    fn read_blocks(&self, pid: u32, fd: u32, len: u32) -> bool
+        ensures { result ≡ is_none (read_result self.now pid fd len) }
+    {
+        let Some(look) = self.io.look(pid, fd) else {
+            return false;
+        };
+        if look.rights % 2 != 1 {
+            return false;
+        }
+        if len == 0 {
+            return false;
+        }
+        self.read_in_blocks(pid, fd, look, len)
+    }
+
+    /// Whether a write to what a descriptor stands for would block.
+    fn write_in_blocks(&self, pid: u32, fd: u32, look: Look, bytes: &[u8]) -> bool
+        ensures { result ≡ is_none (write_in look.target look.offset self.now pid fd bytes.now) }
+    {
+        match look.target {
+            Target::WriteEnd(pipe) => {
+                self.io.ends(Target::ReadEnd(pipe)) != 0 && self.io.space(pipe) == 0
+            }
+            Target::File(_) => false,
+            Target::TermIn => false,
+            Target::TermOut => false,
+            Target::ReadEnd(_) => false,
+        }
+    }
+
+    /// Whether a write would block.
+    fn write_blocks(&self, pid: u32, fd: u32, bytes: &[u8]) -> bool
+        ensures { result ≡ is_none (write_result self.now pid fd bytes.now) }
+    {
+        let Some(look) = self.io.look(pid, fd) else {
+            return false;
+        };
+        if look.rights / 2 % 2 != 1 {
+            return false;
+        }
+        if bytes.is_empty() {
+            return false;
+        }
+        self.write_in_blocks(pid, fd, look, bytes)
+    }
+
+    /// Whether a call would block: exactly where `serve` would answer that it does.
+    #[tactic(auto, unfolding(kernel_spec::specs::Calls::call_row), using(kernel_spec::proofs::Blocking::never_blocks))]
+    pub fn blocks(&self, pid: u32, request: &Request) -> bool
+        ensures { result ≡ is_none (call_result self.now pid request.now) }
+    {
+        match request.number {
+            WAIT => self.wait_blocks(pid),
+            READ => self.read_blocks(pid, request.args[0], request.args[2]),
+            WRITE => self.write_blocks(pid, request.args[0], request.bytes.as_slice()),
+            _ => false,
         }
     }
 
@@ -439,22 +532,31 @@ impl Kernel {
         self.end(pid, End::Signal(signal))
     }
 
+    /// A death by a signal that was taken ends the process. The answer is as of an end.
+    fn after_taken(&mut self, pid: u32, taken: Taken) -> Option<u32>
+        requires { IsLive self.old pid }
+        ensures { after_taken self.old pid taken ≡ record { kernel = self.new; taken = taken; raised = result } }
+    {
+        match taken {
+            Taken::Dies(signal) => self.end(pid, End::Signal(signal)),
+            Taken::Enters { .. } => None,
+        }
+    }
+
     /// Takes the lowest signal that a process can take. None exactly where it is not live or can take none. A handler without room is death by 11.
     pub fn take(&mut self, pid: u32, room: bool) -> Took
         ensures { Takes result (take_result self.old pid room) self.old self.new }
     {
-        match self.processes.take(pid, room) {
-            Some(Taken::Dies(signal)) => {
-                let raised = self.end(pid, End::Signal(signal));
-                Took {
-                    taken: Some(Taken::Dies(signal)),
-                    raised,
-                }
-            }
-            taken => Took {
-                taken,
+        let Some(taken) = self.processes.take(pid, room) else {
+            return Took {
+                taken: None,
                 raised: None,
-            },
+            };
+        };
+        let raised = self.after_taken(pid, taken);
+        Took {
+            taken: Some(taken),
+            raised,
         }
     }
 

@@ -1,9 +1,9 @@
 // The signals of all processes by pid.
-ghost use Rattle.std.specs.Prelude.{◌≡◌, Some, None, option_copied};
+ghost use Rattle.std.specs.Prelude.{◌≡◌, ◌<◌, ◌^◌, Some, None, option_copied};
 ghost use Rattle.std.specs.Option.{option_and_then};
 ghost use Rattle.signal_set.specs.Signals.{lowest_deliverable, child_signals};
 ghost use Rattle.kernel_spec.specs.Pids.{at_pid, changed_pid};
-ghost use Rattle.kernel_spec.specs.Processes.{heeds, with_signal, with_act_for, with_mask, mask_in, act_from, take_of};
+ghost use Rattle.kernel_spec.specs.Processes.{heeds, with_signal, with_act_for, with_mask, mask_in, act_from, is_handled, take_of};
 ghost use Rattle.kernel_spec.specs.Calls.{inherited};
 ghost use Rattle.home_kernel.specs.Taking.{TakesOne, TakesOf};
 

@@ -1,11 +1,11 @@
 // The processes.
-ghost use Rattle.std.specs.Prelude.{◌≡◌, ◌-◌, ◌++◌, ◌∷◌, ◌≤◌, [], true, false, Some, None, IsSome, IfOk, IfSome, OnErr, length, take, pos};
+ghost use Rattle.std.specs.Prelude.{◌≡◌, ◌<◌, ◌^◌, ◌-◌, ◌++◌, ◌∷◌, ◌≤◌, [], true, false, Some, None, IfOk, IsSome, IfSome, OnErr, length, take, pos};
 ghost use Rattle.proc_tree.specs.declared.process.Process.{Process};
 ghost use Rattle.proc_tree.specs.declared.process.State.TheVariants.{Live};
 ghost use Rattle.proc_tree.specs.Tree.{live_at, zombie_at, ended_at, parent_of, has_child_of, lowest_zombie, reaped, next_pid_of};
 ghost use Rattle.signal_set.specs.Signals.{no_signals};
 ghost use Rattle.kernel_spec.specs.Pids.{at_pid};
-ghost use Rattle.kernel_spec.specs.Processes.{nobody, heeding, raised_at, lowest_at, parent_raised, ended_in, take_at, kill_result, sigact_result, masked, mask_in, has_done};
+ghost use Rattle.kernel_spec.specs.Processes.{nobody, heeding, raised_at, lowest_at, parent_raised, ended_in, take_at, kill_by, kill_result, sigact_result, masked, mask_in, has_done};
 ghost use Rattle.kernel_spec.specs.Calls.{inherited};
 ghost use Rattle.home_kernel.specs.Serving.{Joins};
 ghost use Rattle.home_kernel.specs.Taking.{TakesAt};
@@ -193,7 +193,9 @@ impl Processes {
 
     /// Takes the lowest signal of a process. None exactly where it is not live or can take none. Without room a handler is death by 11.
     pub fn take(&mut self, pid: u32, room: bool) -> Option<Taken>
-        ensures { TakesAt result self.old pid (take_at self.old pid room) self.new }
+        ensures is { TakesAt result self.old pid (take_at self.old pid room) self.new }
+        ensures live { IsSome result → live_at self.old.tree pid ≡ true }
+        ensures tree { self.new.tree ≡ self.old.tree }
     {
         if !self.tree.live(pid) {
             return None;

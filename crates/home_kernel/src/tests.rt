@@ -1,6 +1,11 @@
 // Worked calls.
-use crate::kernel::{Kernel, Served};
-use call_table::{Answer, Bytes, End, Request};
+use crate::answers::Served;
+use crate::kernel::Kernel;
+use call_table::call::{
+    CLOSE, DUP, EXIT, FORK, GETPPID, KILL, LSEEK, OPEN, PIPE, READ, SIGACT, SIGMASK, SIGRETURN,
+    UNLINK, WAIT, WRITE, YIELD,
+};
+use call_table::{Answer, Bytes, End, Request, Taken};
 use std::alloc::Global;
 use std::process::Abort;
 use std::test::Fail;
@@ -30,6 +35,26 @@ enum Call {
     Fall,
     /// How the process of this pid ended.
     Ended(u32),
+    Getppid,
+    Fork,
+    /// An address, and the bytes that are to come.
+    Wait(u32, &'static [u8]),
+    /// The bytes that are to come.
+    Pipe(&'static [u8]),
+    /// A pid and a signal.
+    Kill(u32, u32),
+    /// A signal, a handler and a restorer.
+    Sigact(u32, u32, u32),
+    Sigreturn(u32),
+    Sigmask(u32),
+    /// A signal raised from outside: 1 where the process has one to take afterwards.
+    Raise(u32, u8),
+    /// The process takes its lowest signal, with room for a frame or without.
+    Take(bool),
+    /// The lowest signal that the process of this pid can take.
+    Deliverable(u32),
+    /// The other process at which the last call raised a signal.
+    Raised,
 }
 
 use Call::*;
@@ -43,14 +68,17 @@ const OTHER_BYTES: i32 = -1_000;
 /// The value of a call that blocks.
 const BLOCKS: i32 = -1_001;
 
-/// The value of a call that is not built, or of a process that is not live.
+/// The value of a call of a process that is not live.
 const NO_CALL: i32 = -1_002;
 
 /// No process can be launched, or it has not ended.
 const NONE: i32 = -1_003;
 
-/// This and its signal is how a process ended that fell.
+/// This and its signal is how a process ended that fell, or a signal that a process dies of.
 const SIGNAL: i32 = 1_000;
+
+/// This and its signal is a signal whose handler is entered.
+const ENTERS: i32 = 2_000;
 
 /// A kernel, and the process whose calls it serves.
 #[derive(Drop)]
@@ -58,6 +86,7 @@ struct Caller {
     kernel: Kernel,
     alloc: Global,
     pid: u32,
+    raised: Option<u32>,
 }
 
 impl Caller {
@@ -65,7 +94,12 @@ impl Caller {
     fn new(alloc: Global) -> Result<Caller, Fail> {
         let mut kernel = Kernel::new(alloc);
         let pid = kernel.launch()?.ok_or("no room")?;
-        Ok(Caller { kernel, alloc, pid })
+        Ok(Caller {
+            kernel,
+            alloc,
+            pid,
+            raised: None,
+        })
     }
 
     /// The pid of one more process.
@@ -100,7 +134,13 @@ impl Caller {
         }
     }
 
-    fn serve(&mut self, number: u32, args: [u32; 3], bytes: &[u8]) -> Result<Served, Fail> {
+    /// A call of the process, none where it is not live. Whether it would block is asked before.
+    fn serve(
+        &mut self,
+        number: u32,
+        args: [u32; 3],
+        bytes: &[u8],
+    ) -> Result<Option<Served>, Fail> {
         let request = Request {
             number,
             args: [args[0], args[1], args[2], 0, 0, 0],
@@ -108,9 +148,12 @@ impl Caller {
             room: false,
         };
         if !self.kernel.live(self.pid) {
-            return Ok(Served::NotBuilt);
+            return Ok(None);
         }
-        Ok(self.kernel.serve(self.alloc, self.pid, &request)?)
+        if self.kernel.blocks(self.pid, &request) {
+            return Ok(Some(Served::Blocks));
+        }
+        Ok(Some(self.kernel.serve(self.alloc, self.pid, &request)?))
     }
 
     /// The value of a call that is to give these bytes.
@@ -122,32 +165,85 @@ impl Caller {
         want: &[u8],
     ) -> Result<i32, Fail> {
         match self.serve(number, args, bytes)? {
-            Served::Done { answer, raised: _ } => Ok(value_with(&answer, want)),
-            Served::Blocks => Ok(BLOCKS),
-            Served::NotBuilt => Ok(NO_CALL),
+            Some(Served::Done { answer, raised }) => {
+                self.raised = raised;
+                Ok(value_with(&answer, want))
+            }
+            Some(Served::Blocks) => Ok(BLOCKS),
+            None => Ok(NO_CALL),
         }
     }
 
+    fn take(&mut self, room: bool) -> i32 {
+        let took = self.kernel.take(self.pid, room);
+        self.raised = took.raised;
+        match took.taken {
+            Some(Taken::Dies(signal)) => SIGNAL + signal as i32,
+            Some(Taken::Enters { signal, .. }) => ENTERS + signal as i32,
+            None => NONE,
+        }
+    }
+
+    fn deliverable(&self, pid: u32) -> i32 {
+        match self.kernel.deliverable(pid) {
+            Some(signal) => signal as i32,
+            None => NONE,
+        }
+    }
+
+    fn told(&self) -> i32 {
+        match self.raised {
+            Some(pid) => pid.cast_signed(),
+            None => NONE,
+        }
+    }
+
+    /// A call on processes and signals, none where it is another.
+    fn process_call(&mut self, call: Call) -> Result<Option<i32>, Fail> {
+        let none = b"".as_slice();
+        Ok(Some(match call {
+            Getppid => self.value(GETPPID, [0, 0, 0], none, none)?,
+            Fork => self.value(FORK, [0, 0, 0], none, none)?,
+            Wait(status, want) => self.value(WAIT, [status, 0, 0], none, want)?,
+            Pipe(want) => self.value(PIPE, [0, 0, 0], none, want)?,
+            Kill(pid, signal) => self.value(KILL, [pid, signal, 0], none, none)?,
+            Sigact(signal, handler, restorer) => {
+                self.value(SIGACT, [signal, handler, restorer], none, none)?
+            }
+            Sigreturn(mask) => self.value(SIGRETURN, [mask, 0, 0], none, none)?,
+            Sigmask(mask) => self.value(SIGMASK, [mask, 0, 0], none, none)?,
+            Raise(pid, signal) => self.kernel.raise(pid, signal) as i32,
+            Take(room) => self.take(room),
+            Deliverable(pid) => self.deliverable(pid),
+            Raised => self.told(),
+            _ => return Ok(None),
+        }))
+    }
+
     fn call(&mut self, call: Call) -> Result<i32, Fail> {
+        if let Some(value) = self.process_call(call)? {
+            return Ok(value);
+        }
         let none = b"".as_slice();
         let long = [b'n'; 65];
         match call {
-            Exit(code) => self.value(1, [code, 0, 0], none, none),
-            Open(name, flags) => self.value(6, [0, count(name), flags], name, none),
+            Exit(code) => self.value(EXIT, [code, 0, 0], none, none),
+            Open(name, flags) => self.value(OPEN, [0, count(name), flags], name, none),
             OpenLong(len, flags) => {
-                self.value(6, [0, len, flags], &long[..len.min(65) as usize], none)
+                self.value(OPEN, [0, len, flags], &long[..len.min(65) as usize], none)
             }
-            Close(fd) => self.value(7, [fd, 0, 0], none, none),
-            Read(fd, len, want) => self.value(8, [fd, 0, len], none, want),
-            Write(fd, bytes) => self.value(9, [fd, 0, count(bytes)], bytes, none),
-            Seek(fd, off, whence) => self.value(10, [fd, off, whence], none, none),
-            Dup(fd) => self.value(12, [fd, 0, 0], none, none),
-            Unlink(name) => self.value(13, [0, count(name), 0], name, none),
-            Yield => self.value(19, [1, 2, 3], none, none),
+            Close(fd) => self.value(CLOSE, [fd, 0, 0], none, none),
+            Read(fd, len, want) => self.value(READ, [fd, 0, len], none, want),
+            Write(fd, bytes) => self.value(WRITE, [fd, 0, count(bytes)], bytes, none),
+            Seek(fd, off, whence) => self.value(LSEEK, [fd, off, whence], none, none),
+            Dup(fd) => self.value(DUP, [fd, 0, 0], none, none),
+            Unlink(name) => self.value(UNLINK, [0, count(name), 0], name, none),
+            Yield => self.value(YIELD, [1, 2, 3], none, none),
             Launch => self.launch(),
             By(pid) => Ok(self.by(pid)),
             Fall => Ok(self.fall()),
             Ended(pid) => Ok(self.ended(pid)),
+            _ => Ok(NO_CALL),
         }
     }
 }
@@ -560,18 +656,168 @@ fn terminal_input(rt: HostRuntime) -> Result<(), Fail> {
     terminal_input_by(&rt, &mut caller)
 }
 
-fn calls_that_are_not_built_by(rt: &impl Abort, caller: &mut Caller) -> Result<(), Fail> {
-    for number in [0u32, 2, 3, 4, 5, 11, 14, 15, 16, 17, 18, 20, u32::MAX] {
+fn numbers_of_no_call_by(rt: &impl Abort, caller: &mut Caller) -> Result<(), Fail> {
+    for number in [0u32, 2, 18, 20, u32::MAX] {
         let value = caller.value(number, [0, 0, 0], b"", b"")?;
-        assert_eq!(rt; value, NO_CALL, "{number}");
+        assert_eq!(rt; value, -38, "{number}");
     }
     Ok(())
 }
 
 #[test]
-fn calls_that_are_not_built(rt: HostRuntime) -> Result<(), Fail> {
+fn numbers_of_no_call(rt: HostRuntime) -> Result<(), Fail> {
     let mut caller = Caller::new(rt.alloc())?;
-    calls_that_are_not_built_by(&rt, &mut caller)
+    numbers_of_no_call_by(&rt, &mut caller)
+}
+
+/// The offset is shared through dup and fork; a pipe ends with its last write end.
+const SHARED_BY_FORK: [(Call, i32); 24] = [
+    (Open(b"a", 7), 3),
+    (Dup(3), 4),
+    (Fork, 2),
+    (By(2), 0),
+    (Getppid, 1),
+    (Write(4, b"12345"), 5),
+    (By(1), 0),
+    (Seek(3, 0, 1), 5),
+    (Pipe(b"\x05\0\0\0\x06\0\0\0"), 0),
+    (Read(5, 4, b""), BLOCKS),
+    (Fork, 3),
+    (Close(6), 0),
+    (Read(5, 4, b""), BLOCKS),
+    (By(3), 0),
+    (Close(5), 0),
+    (Write(6, b"abcdef"), 6),
+    (Read(6, 1, b""), -9),
+    (By(1), 0),
+    (Read(5, 4, b"abcd"), 4),
+    (By(3), 0),
+    (Exit(0), 0),
+    (By(1), 0),
+    (Read(5, 4, b"ef"), 2),
+    (Read(5, 4, b""), 0),
+];
+
+/// A full pipe blocks; without an end that reads the caller has signal 13.
+const FULL_PIPE: [(Call, i32); 14] = [
+    (Pipe(b"\x03\0\0\0\x04\0\0\0"), 0),
+    (Write(4, &[7; 4095]), 4095),
+    (Write(4, b"xy"), 1),
+    (Write(4, b"y"), BLOCKS),
+    (Read(3, 1, &[7]), 1),
+    (Write(4, b"y"), 1),
+    (Close(3), 0),
+    (Sigact(13, 1, 0), 0),
+    (Write(4, b"z"), -32),
+    (Deliverable(1), NONE),
+    (Sigact(13, 0, 0), 0),
+    (Write(4, b"z"), -32),
+    (Raised, NONE),
+    (Take(true), SIGNAL + 13),
+];
+
+/// Waiting: without children, for a live one, for zombies, the lowest first.
+const WAITS: [(Call, i32); 24] = [
+    (Wait(8, b""), -10),
+    (Fork, 2),
+    (Fork, 3),
+    (Wait(8, b""), BLOCKS),
+    (By(3), 0),
+    (Exit(256 + 7), 0),
+    (Raised, NONE),
+    (By(2), 0),
+    (Fall, 0),
+    (By(1), 0),
+    (Kill(3, 9), 0),
+    (Kill(4, 9), -3),
+    (Wait(8, b"\x0b\0\0\0"), 2),
+    (Kill(2, 0), -3),
+    (Wait(8, b"\0\x07\0\0"), 3),
+    (Wait(8, b""), -10),
+    (Fork, 4),
+    (By(4), 0),
+    (Fork, 5),
+    (Exit(1), 0),
+    (By(5), 0),
+    (Getppid, 0),
+    (By(1), 0),
+    (Wait(0, b""), 4),
+];
+
+/// Signals: both 9 and 10 raised with a full mask, a handler with and without room, a handled 17.
+const SIGNALS: [(Call, i32); 40] = [
+    (Kill(1, 3), -22),
+    (Sigact(9, 1, 0), -22),
+    (Sigact(3, 1, 0), -22),
+    (Sigmask(0xFFFF_FFFF), 0),
+    (Sigmask(0), 0x0102_BC34),
+    (Sigact(10, 0x1000, 0x2000), 0),
+    (Sigact(17, 0x3000, 0x2000), 0),
+    (Fork, 2),
+    (Kill(2, 10), 0),
+    (Raised, 2),
+    (Kill(1, 10), 0),
+    (Raised, NONE),
+    (Deliverable(1), 10),
+    (Take(true), ENTERS + 10),
+    (Sigmask(0), 1024),
+    (Take(true), NONE),
+    (Kill(1, 0), 0),
+    (Take(true), NONE),
+    (By(2), 0),
+    (Take(false), SIGNAL + 11),
+    (Raised, 1),
+    (Take(true), NONE),
+    (Ended(2), SIGNAL + 11),
+    (By(1), 0),
+    (Deliverable(1), 17),
+    (Sigact(17, 0, 0), 0),
+    (Deliverable(1), NONE),
+    (Wait(8, b"\x0b\0\0\0"), 2),
+    (Raise(2, 9), 0),
+    (Raise(1, 17), 0),
+    (Raise(1, 12), 1),
+    (Sigmask(4096), 0),
+    (Raise(1, 12), 0),
+    (Raise(1, 15), 1),
+    (Sigreturn(0), 0),
+    (Deliverable(1), 12),
+    (Raise(1, 9), 1),
+    (Deliverable(1), 9),
+    (Take(true), SIGNAL + 9),
+    (Ended(1), SIGNAL + 9),
+];
+
+#[test]
+fn pipes_waits_and_signals(rt: HostRuntime) -> Result<(), Fail> {
+    check_first(&rt, rt.alloc(), &SHARED_BY_FORK)?;
+    check_first(&rt, rt.alloc(), &FULL_PIPE)?;
+    check_first(&rt, rt.alloc(), &WAITS)?;
+    check_first(&rt, rt.alloc(), &SIGNALS)
+}
+
+const MANY: [(Call, i32); 8] = [
+    (Fork, -11),
+    (Launch, NONE),
+    (By(30), 0),
+    (Exit(9), 0),
+    (By(1), 0),
+    (Fork, -11),
+    (Wait(4, b"\0\x09\0\0"), 30),
+    (Fork, 65),
+];
+
+fn sixty_four_processes_by(rt: &impl Abort, caller: &mut Caller) -> Result<(), Fail> {
+    for pid in 2..65i32 {
+        check(rt, caller, &[(Fork, pid)])?;
+    }
+    check(rt, caller, &MANY)
+}
+
+#[test]
+fn sixty_four_processes(rt: HostRuntime) -> Result<(), Fail> {
+    let mut caller = Caller::new(rt.alloc())?;
+    sixty_four_processes_by(&rt, &mut caller)
 }
 
 const ENDS: [(Call, i32); 19] = [

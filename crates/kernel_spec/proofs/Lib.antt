@@ -1,2 +1,3 @@
 pub mod PidLemmas
 pub mod GivenLemmas
+pub mod Blocking

@@ -1,5 +1,6 @@
 -- A call of a process, where it is built.
 use Rattle.std.specs.Prelude.{ℕ, ◌+◌, ◌-◌, ◌/◌, ◌%◌, List, [], ◌++◌, Option, Some, None, ◌==◌, if◌then◌else◌, slice_index, min, take, drop, length, pos, Bool, nat_le}
+use Rattle.std.specs.Int.{w32, cast_signed}
 use Rattle.call_table.specs.declared.request.Request.{Request}
 use Rattle.call_table.specs.declared.request.Answer.{Answer}
 use Rattle.call_table.specs.declared.request.Kind.TheVariants.{Plain, Fork, Return}
@@ -184,7 +185,7 @@ abbrev pub without_zombie : KernelState → ℕ → KernelState
 without_zombie k child = record k { processes = record k.processes { tree = reaped k.processes.tree child } }
 
 abbrev pub wait_answer : KernelState → ℕ → ℕ → Answer
-wait_answer k child status = record { value = pos child; bytes = status_bytes status (end_at k child); kind = Plain }
+wait_answer k child status = record { value = cast_signed w32 child; bytes = status_bytes status (end_at k child); kind = Plain }
 
 -- the lowest zombie is told and goes; without one a process with children waits
 abbrev pub wait_for : Option ℕ → KernelState → ℕ → ℕ → Option Called
@@ -217,7 +218,7 @@ sigreturn_result k pid mask = record {
 unfoldable pub call_row : ℕ → KernelState → ℕ → List ℕ → List ℕ → Option Called
 call_row number k pid args bytes =
     if number == EXIT then Some (exited k pid (slice_index args 0)) else
-    (if number == GETPPID then Some (answers k (pos (parent_of k.processes.tree pid))) else
+    (if number == GETPPID then Some (answers k (cast_signed w32 (parent_of k.processes.tree pid))) else
     (if number == FORK then Some (fork_result k pid) else
     (if number == WAIT then wait_result k pid (slice_index args 0) else
     (if number == OPEN then Some (answers_io k (open_result k.io pid (slice_index args 1) bytes (slice_index args 2))) else
