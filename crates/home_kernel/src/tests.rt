@@ -135,12 +135,7 @@ impl Caller {
     }
 
     /// A call of the process, none where it is not live. Whether it would block is asked before.
-    fn serve(
-        &mut self,
-        number: u32,
-        args: [u32; 3],
-        bytes: &[u8],
-    ) -> Result<Option<Served>, Fail> {
+    fn serve(&mut self, number: u32, args: [u32; 3], bytes: &[u8]) -> Result<Option<Served>, Fail> {
         let request = Request {
             number,
             args: [args[0], args[1], args[2], 0, 0, 0],
