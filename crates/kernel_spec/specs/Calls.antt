@@ -1,8 +1,9 @@
 -- A call of a process, where it is built.
-use Rattle.std.specs.Prelude.{ℕ, ◌+◌, ◌-◌, ◌/◌, ◌%◌, List, [], ◌++◌, Option, Some, None, ◌==◌, if◌then◌else◌, slice_index, min, take, drop, length, pos, Bool, nat_le}
+use Rattle.std.specs.Prelude.{◌≡◌, ℕ, ◌+◌, ◌-◌, ◌/◌, ◌%◌, List, [], ◌++◌, Option, Some, None, ◌==◌, if◌then◌else◌, slice_index, min, take, drop, length, pos, Bool, nat_le}
 use Rattle.std.specs.Int.{w32, cast_signed}
 use Rattle.call_table.specs.declared.request.Request.{Request}
 use Rattle.call_table.specs.declared.request.Answer.{Answer}
+use Rattle.call_table.specs.declared.request.Kind.{Kind}
 use Rattle.call_table.specs.declared.request.Kind.TheVariants.{Plain, Fork, Return}
 use Rattle.call_table.specs.declared.call.TheConstants.{EXIT, GETPPID, FORK, WAIT, OPEN, CLOSE, READ, WRITE, LSEEK, PIPE, DUP, UNLINK, KILL, SIGACT, SIGRETURN, SIGMASK, YIELD}
 use Rattle.call_table.specs.declared.limit.TheConstants.{FILE_BYTES, TRANSFER_BYTES, TERMINAL_BYTES}
@@ -20,7 +21,7 @@ use Rattle.signal_set.specs.Signals.{SignalState, no_signals, child_signals}
 use Rattle.kernel_spec.specs.Pids.{at_pid}
 use Rattle.kernel_spec.specs.Io.{IoState, IoGiven, open_result, close_result, seek_result, dup_result, unlink_result, pipe_result}
 use Rattle.kernel_spec.specs.Processes.{joined, masked, kill_result, sigact_result, sigmask_result, status_bytes}
-use Rattle.kernel_spec.specs.Kernel.{KernelState, Input, Called, end_at, with_raised, value_answer, answers, answers_io, answers_done, exited}
+use Rattle.kernel_spec.specs.Kernel.{KernelState, Input, Called, given, end_at, with_raised, value_answer, answers, answers_io, answers_done, exited}
 
 -- ---- read
 
@@ -238,6 +239,18 @@ call_row number k pid args bytes =
 
 abbrev pub call_result : KernelState → ℕ → Request → Option Called
 call_result k pid asked = call_row asked.number k pid asked.args asked.bytes
+
+-- ---- how many pids a call gives
+
+abbrev pub children_of : Kind → ℕ
+children_of Plain = 0
+children_of Fork = 1
+children_of Return = 0
+
+-- a fork gives one pid, and no other call gives or takes one
+abbrev pub GivesPids : Option Called → ℕ → Type 0
+GivesPids None before = Unit {0}
+GivesPids (Some called) before = given called.kernel ≡ before + children_of called.answer.kind
 
 -- what a call that is broken off answers; the kernel stays as it is
 abbrev pub broken : KernelState → Called
