@@ -3,3 +3,4 @@ mod Growing
 mod Closing
 mod Taken
 mod Piping
+mod Gives

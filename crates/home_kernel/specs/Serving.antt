@@ -1,11 +1,12 @@
 -- What the kernel's answers tell.
-use Rattle.std.specs.Prelude.{◌≡◌, ℕ, List, Option, Some, None, Bool, true, false, ◌&&◌, is_some}
+use Rattle.std.specs.Prelude.{◌≡◌, ℕ, ◌+◌, List, Option, Some, None, Bool, true, false, ◌&&◌, is_some}
 use Rattle.call_table.specs.declared.request.Taken.{Taken}
 use Rattle.proc_tree.specs.Tree.{next_pid_of}
 use Rattle.signal_set.specs.Signals.{SignalState}
 use Rattle.kernel_spec.specs.Io.{IoState}
 use Rattle.kernel_spec.specs.Processes.{ProcessTable, joined, heeding}
 use Rattle.kernel_spec.specs.Kernel.{KernelState, Input, Called, AfterTake, given, is_live, has_room, with_process, with_raised, deliverable}
+use Rattle.kernel_spec.specs.Calls.{children_of}
 use Rattle.home_kernel.specs.declared.answers.Served.{Served}
 use Rattle.home_kernel.specs.declared.answers.Served.TheVariants.{Blocks, Done}
 use Rattle.home_kernel.specs.declared.kernel.Took.{Took}
@@ -21,6 +22,11 @@ IsLive k pid = is_live k pid ≡ true
 abbrev pub Serves : Served → Option Called → KernelState → KernelState → Type 0
 Serves Blocks called old new = (called ≡ None) × (new ≡ old)
 Serves (Done answer raised) called old new = called ≡ Some (record { kernel = new; answer = answer; raised = raised })
+
+-- how many pids were given after a call
+abbrev pub GivesAfter : Served → ℕ → ℕ → Type 0
+GivesAfter Blocks before after = after ≡ before
+GivesAfter (Done answer raised) before after = after ≡ before + children_of answer.kind
 
 -- a new process, none where there is no room
 abbrev pub Joins : Option ℕ → ProcessTable → ℕ → SignalState → ProcessTable → Type 0

@@ -8,7 +8,7 @@ ghost use Rattle.kernel_spec.specs.Io.{open_result, close_result, seek_result, d
 ghost use Rattle.kernel_spec.specs.Processes.{kill_result, sigact_result, sigmask_result};
 ghost use Rattle.kernel_spec.specs.Kernel.{KernelState, no_process, given, end_at, is_live, has_room, answers, answers_io, answers_done, value_answer, deliverable, with_end, exited, raised_by_end, with_raised, after_taken, take_result, fed};
 ghost use Rattle.kernel_spec.specs.Calls.{call_result, read_in, write_in, wait_answer, without_zombie, read_input, read_pipe, read_result, write_file, write_terminal, write_pipe, write_result, fork_result, wait_result, sigreturn_result, answers_given};
-ghost use Rattle.home_kernel.specs.Serving.{Serves, Launches, IsLive, Takes, is_poked};
+ghost use Rattle.home_kernel.specs.Serving.{Serves, GivesAfter, Launches, IsLive, Takes, is_poked};
 
 use crate::answers::{
     Served, bytes_answer, child_answer, done, fork_answer, status_bytes, value, value_answer,
@@ -403,9 +403,9 @@ impl Kernel {
         value(alloc, old as i32)
     }
 
-    /// A call of a live process by its number. A call that blocks and want of memory change nothing.
+    /// A call of a live process by its number.
     #[tactic(auto, unfolding(kernel_spec::specs::Calls::call_row))]
-    pub fn serve(&mut self, alloc: Global, pid: u32, request: &Request) -> Result<Served, NoMemory>
+    fn call(&mut self, alloc: Global, pid: u32, request: &Request) -> Result<Served, NoMemory>
         requires { IsLive self.old pid }
         ensures ok { IfOk result (λ served. Serves served (call_result self.old pid request.now) self.old self.new) }
         ensures err { OnErr result (self.new ≡ self.old) }
@@ -431,6 +431,18 @@ impl Kernel {
             YIELD => Ok(value(alloc, 0)),
             _ => Ok(value(alloc, ENOSYS)),
         }
+    }
+
+    /// A call of a live process by its number. A call that blocks and want of memory change nothing. A fork gives one pid, and no other call
+    /// gives or takes one.
+    pub fn serve(&mut self, alloc: Global, pid: u32, request: &Request) -> Result<Served, NoMemory>
+        requires { IsLive self.old pid }
+        ensures ok { IfOk result (λ served. Serves served (call_result self.old pid request.now) self.old self.new) }
+        ensures given { IfOk result (λ served. GivesAfter served (given self.old) (given self.new)) }
+        ensures err { OnErr result (self.new ≡ self.old) }
+    {
+        let served = self.call(alloc, pid, request)?;
+        Ok(served)
     }
 
     /// Whether a wait would block.
