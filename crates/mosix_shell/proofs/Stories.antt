@@ -11,8 +11,8 @@ use Rattle.node_event.specs.declared.event.What.TheVariants.{Steps, Sent, Got}
 use Rattle.node_event.specs.declared.script.ScriptLine.{ScriptLine}
 use Rattle.user_spec.specs.User.{UserState}
 use Rattle.user_spec.specs.Advance.{Walk, quantum_of, request_of, asked_number}
-use Rattle.one_node.specs.Machine.{MachineState, live_user, ended_of, with_user, if_live, have_ended}
-use Rattle.mosix_shell.specs.OnceLaw.{phase_of, number_asked, way_for, value_gained}
+use Rattle.one_node.specs.Machine.{MachineState, live_user, ended_of, with_user, if_live, have_ended, value_gained}
+use Rattle.mosix_shell.specs.OnceLaw.{phase_of, number_asked, way_for}
 use Rattle.mosix_shell.specs.declared.phase.Phase.{Phase}
 use Rattle.mosix_shell.specs.declared.phase.Phase.TheVariants.{Goes, Waits, IsServed}
 use Rattle.mosix_shell.specs.Turns.{Moment, Turned, Makes, IsOver, IsUnbuilt, turn_of, turn_in, go_turn, going_turn, sent_turn, steps_turn, serve_turn, served_turn, served_what, served_machine, got_turn, event_after, first_event, first_moment, Story, story, told_by, is_over}

@@ -15,11 +15,11 @@ use Rattle.node_event.specs.declared.script.ScriptLine.{ScriptLine}
 use Rattle.user_spec.specs.User.{UserState}
 use Rattle.user_spec.specs.Advance.{Went, Done, AtCall, Faults, advance, advanced, Walk, quantum_of, request_of, asked_number}
 use Rattle.kernel_spec.specs.Kernel.{KernelState, Called}
-use Rattle.one_node.specs.Machine.{MachineState, start, live_user, ended_of, with_user, done_of, fallen, played, machine_step, and_then, if_live, steps_of, stepped}
+use Rattle.one_node.specs.Machine.{MachineState, start, live_user, ended_of, with_user, done_of, fallen, played, machine_step, and_then, if_live, steps_of, stepped, value_gained}
 use Rattle.mosix_shell.specs.Schedule.{event_steps, served_step}
 use Rattle.mosix_shell.specs.History.{machine_of, AreStamped}
 use Rattle.mosix_shell.specs.ScriptLaw.{ScriptLaw, ScriptAt, command_count, commands_in}
-use Rattle.mosix_shell.specs.OnceLaw.{OnceLaw, OnceAt, OnceBetween, phase_of, phase_after, number_asked, value_gained, way_for, IsWay, IsWaitingFor, IsQuantum, ServedAs, GotAs}
+use Rattle.mosix_shell.specs.OnceLaw.{OnceLaw, OnceAt, OnceBetween, phase_of, phase_after, number_asked, way_for, IsWay, IsWaitingFor, IsQuantum, ServedAs, GotAs}
 use Rattle.mosix_shell.specs.declared.phase.Phase.{Phase}
 use Rattle.mosix_shell.specs.declared.phase.Phase.TheVariants.{Goes, Waits, IsServed}
 use Rattle.one_node.specs.declared.step.Step.{Step}

@@ -1,8 +1,8 @@
 // One process at home, from its launch to its end.
 ghost use Rattle.std.specs.Prelude.{◌≡◌, ◌<◌, ◌≤◌, ◌+◌, ◌++◌, ◌∷◌, [], Some, None, IfOk, OnOk, OnErr, IfSome, length, ◌^◌, true, false, reverse};
 ghost use Rattle.user_spec.specs.User.{UserState};
-ghost use Rattle.mosix_shell.specs.OnceLaw.{value_gained, way_for};
-ghost use Rattle.one_node.specs.Machine.{live_user};
+ghost use Rattle.mosix_shell.specs.OnceLaw.{way_for};
+ghost use Rattle.one_node.specs.Machine.{live_user, value_gained};
 ghost use Rattle.mosix_shell.specs.Turns.{Moment, quantum_steps, event_after, first_event, first_moment, turn_of, go_turn, serve_turn, got_turn, story, later_events};
 ghost use Rattle.mosix_shell.specs.Running.{MakesTurn, EndsAs, Finishes, RunsTo, moment};
 

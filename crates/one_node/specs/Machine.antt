@@ -1,6 +1,6 @@
 -- The one-node machine: the system without nodes, letters or migration.
 use Rattle.std.specs.Prelude.{ℕ, zero, suc, ◌+◌, ◌-◌, ◌^◌, List, [], ◌∷◌, ◌++◌, Option, Some, None, ◌==◌, ◌&&◌, if◌then◌else◌, slice_get, slice_set, length, nat_lt, ℤ, count_by, is_none, is_some, refl, ◌≡◌, Bool, true, false}
-use Rattle.std.specs.Option.{option_and_then}
+use Rattle.std.specs.Option.{option_map, option_and_then}
 use Rattle.std.specs.List.{list_all}
 use Rattle.std.specs.Coded.{Coded, code_by, coded×, coded_list}
 use Rattle.call_table.specs.declared.request.Request.{Request}
@@ -138,6 +138,15 @@ played setup (step ∷ steps) m = and_then (machine_step setup step m) (played s
 -- from the empty state
 abbrev pub play : List UserState → List Step → Option MachineState
 play setup steps = played setup steps start
+
+-- ---- what a step tells
+
+abbrev pub value_in : Reply3 → ℤ
+value_in reply = reply.value
+
+-- the value of the reply that the machine gains
+abbrev pub value_gained : MachineState → MachineState → Option ℤ
+value_gained old new = option_map value_in (slice_get new.replies (length old.replies))
 
 -- a test says whether there is an outcome, and then the state after it
 abbrev pub Moves : {A : Type 0} → Bool → Option A → A → Type 0
