@@ -10,4 +10,5 @@ pub mod Headlines
 pub mod Turning
 pub mod Verdicts
 pub mod Assemblies
-pub mod Modes
+pub mod Readings
+pub mod Answering

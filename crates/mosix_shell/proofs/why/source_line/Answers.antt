@@ -1,7 +1,7 @@
 use Rattle.std.proofs.Common.{◌∙◌, ◌++◌, ap, codes}
 use Rattle.std.specs.Fmt.{decimal}
 use Rattle.mosix_shell.proofs.Written.{line_parts}
-use Rattle.mosix_shell.proofs.mosix.source_line.Goals as goal
+use Rattle.mosix_shell.proofs.why.source_line.Goals as goal
 
 pub returns : goal.returns
 returns c =

@@ -1,6 +1,6 @@
 use Rattle.std.proofs.Common.{◌≡◌, ◌≤◌, ◌-◌, length}
-use Rattle.mosix_shell.specs.Script.{IsReadOn}
-use Rattle.mosix_shell.proofs.script.read_to.Given as goal
+use Rattle.mosix_shell.specs.Reading.{IsReadOn}
+use Rattle.mosix_shell.proofs.reading.read_to.Given as goal
 
 -- these bytes were read so far
 abbrev pub invariant-loop-chunk : goal.invariant-loop-chunk

@@ -1,6 +1,6 @@
 use Rattle.std.proofs.Common.{ap, Err}
 use Rattle.mosix_shell.proofs.Verdicts.{verdict_reading, verdict_image, verdict_done, verdict_unbuilt, run_of}
-use Rattle.mosix_shell.proofs.mosix.run_words.Goals as goal
+use Rattle.mosix_shell.proofs.mosix.run_of.Goals as goal
 
 pub returns-in-Err-clause-verdict : goal.returns-in-Err-clause-verdict
 returns-in-Err-clause-verdict g c = verdict_reading _ _ c.in-Err.why c.in-Err.ensures.others.1 (λ e. c.in-Err.ensures.unnamed (ap (λ w. Err w) e))

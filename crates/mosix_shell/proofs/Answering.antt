@@ -1,0 +1,136 @@
+-- What is written, and what each mode promises.
+use Rattle.std.proofs.Common.{◌≡◌, ◌⊎◌, inl, inr, ℕ, ◌+◌, List, refl, ap, ◌∙◌, sym, subst, Option, Some, None, Ok, Err, Bool, true, false, cond, is_some, IfSome}
+use Rattle.call_table.specs.declared.limit.TheConstants.{SCRIPT_BYTES}
+use Rattle.call_table.specs.declared.files.Named.{Named}
+use Rattle.call_table.specs.declared.process.PidState.{PidState}
+use Rattle.outside.specs.Outside.{Appends, Rose}
+use Rattle.outside.specs.declared.traits.Failed.{Failed}
+use Rattle.mosix_shell.specs.Report.{report_text}
+use Rattle.mosix_shell.specs.Told.{Seen, Outside}
+use Rattle.mosix_shell.specs.Reading.{Reads}
+use Rattle.mosix_shell.specs.Why.{text_of, has_run, is_of_run, cuts_short, RefusesRun}
+use Rattle.mosix_shell.specs.Writing.{Writes, WritesRun, text_of_run}
+use Rattle.mosix_shell.specs.Verdict.{IsRunOf, IsVerdict}
+use Rattle.mosix_shell.specs.Answers.{RunAnswers, AsmAnswers, RefusesWords, Answers}
+use Rattle.mosix_shell.specs.declared.run.Run.{Run}
+use Rattle.mosix_shell.specs.declared.mosix.Ended.{Ended}
+use Rattle.mosix_shell.specs.declared.why.Why.{Why}
+use Rattle.mosix_shell.specs.declared.why.Why.TheVariants.{Done, BadWords, BadImage, ReadFault, WriteFault, NoMemory, NotBuilt, BadSource}
+use Rattle.mosix_shell.specs.declared.words.Mode.{Mode}
+use Rattle.mosix_shell.specs.declared.words.Mode.TheVariants as mode
+use Rattle.mosix_shell.proofs.Written.{appends_none}
+use Rattle.mosix_shell.proofs.Readings.{cut_or_not, told_cut}
+use Rattle.mosix_shell.proofs.Verdicts.{verdict_told, verdict_refused}
+
+-- ---- the line of an answer
+
+pub line_all : (old new : Seen (List ℕ)) (x : Ended) (status : ℕ) (why : Why) (given line : List ℕ) (u : Unit {0}) → x ≡ record { status = status; why = why; run = None }
+    → Appends old.told new.told given (Ok u) → given ≡ line → line ≡ text_of why → Writes old new (text_of x.why)
+line_all old new x status why given line u is h e f = inl (subst (λ t. Appends old.told new.told t (Ok u)) (e ∙ f ∙ ap (λ (y : Ended). text_of y.why) (sym is)) h)
+
+pub line_front : (old new : Seen (List ℕ)) (x : Ended) (status : ℕ) (why : Why) (given line : List ℕ) (failed : Failed) → x ≡ record { status = status; why = why; run = None }
+    → Appends old.told new.told given (Err failed) → Rose old.faults new.faults → given ≡ line → line ≡ text_of why → Writes old new (text_of x.why)
+line_front old new x status why given line failed is h rose e f = inr (record {
+  failed = failed;
+  front = subst (λ t. Appends old.told new.told t (Err failed)) (e ∙ f ∙ ap (λ (y : Ended). text_of y.why) (sym is)) h;
+  cause = rose;
+})
+
+-- where memory is wanting the line is empty
+pub line_none : (a : Seen (List ℕ)) (x : Ended) (status : ℕ) → x ≡ record { status = status; why = NoMemory; run = None } → Writes a a (text_of x.why)
+line_none a x status is = subst (λ (y : Ended). Writes a a (text_of y.why)) (sym is) (inl (appends_none a.told tt))
+
+-- ---- the report of a run
+
+text_is : (run : Run) (t text : List ℕ) (st : List (ℕ × PidState)) (fs : List Named) → text ≡ report_text t st fs → t ≡ run.terminal → st ≡ run.statuses → fs ≡ run.files → text ≡ text_of_run run
+text_is run t text st fs e a b f =
+    e ∙ ap (λ (x : List ℕ). report_text x st fs) a ∙ ap (λ (x : List (ℕ × PidState)). report_text run.terminal x fs) b ∙ ap (report_text run.terminal run.statuses) f
+
+pub report_front : (x : Ended) (status : ℕ) (run : Run) (t text given : List ℕ) (st : List (ℕ × PidState)) (fs : List Named) (old new : Seen (List ℕ)) (e : Failed) → x ≡ record { status = status; why = WriteFault; run = Some run }
+    → given ≡ text → text ≡ report_text t st fs → t ≡ run.terminal → st ≡ run.statuses → fs ≡ run.files → Appends old.told new.told given (Err e) → Rose old.faults new.faults → WritesRun old new x.run x.why
+report_front x status run t text given st fs old new e is g q a b f h rose =
+    let own : WritesRun old new (Some run) WriteFault = record { failed = e; front = subst (λ s. Appends old.told new.told s (Err e)) (g ∙ text_is run t text st fs q a b f) h; cause = rose } in
+    subst (λ (y : Ended). WritesRun old new y.run y.why) (sym is) own
+
+pub report_all : (x : Ended) (status : ℕ) (run : Run) (t text given : List ℕ) (st : List (ℕ × PidState)) (fs : List Named) (old new : Seen (List ℕ)) (u : Unit {0}) → x ≡ record { status = status; why = Done; run = Some run }
+    → given ≡ text → text ≡ report_text t st fs → t ≡ run.terminal → st ≡ run.statuses → fs ≡ run.files → Appends old.told new.told given (Ok u) → WritesRun old new x.run x.why
+report_all x status run t text given st fs old new u is g q a b f h =
+    let own : WritesRun old new (Some run) Done = subst (λ s. Appends old.told new.told s (Ok u)) (g ∙ text_is run t text st fs q a b f) h in
+    subst (λ (y : Ended). WritesRun old new y.run y.why) (sym is) own
+
+pub report_none : (a : Seen (List ℕ)) (x : Ended) (status : ℕ) → x ≡ record { status = status; why = NoMemory; run = None } → WritesRun a a x.run x.why
+report_none a x status is = subst (λ (y : Ended). WritesRun a a y.run y.why) (sym is) (inl (appends_none a.told tt))
+
+-- ---- mode `run`
+
+hollow : (why told : Why) → RefusesRun why → ((told ≡ why) ⊎ (told ≡ NoMemory)) → has_run told ≡ false
+hollow why told r (inl e) = ap has_run e ∙ r.hollow
+hollow why told r (inr e) = ap has_run e
+
+of_run : (why told : Why) → RefusesRun why → ((told ≡ why) ⊎ (told ≡ NoMemory)) → is_of_run told ≡ true
+of_run why told r (inl e) = ap is_of_run e ∙ r.of_run
+of_run why told r (inr e) = ap is_of_run e
+
+still_read : (most : ℕ) (left now : Option (List ℕ)) (why told : Why) → Reads most left now (cuts_short why) → ((told ≡ why) ⊎ (told ≡ NoMemory)) → Reads most left now (cuts_short told)
+still_read most left now why told r (inl e) = subst (λ w. Reads most left now (cuts_short w)) (sym e) r
+still_read most left now why told r (inr e) = subst (λ w. Reads most left now (cuts_short w)) (sym e) (told_cut most left now (cuts_short why) r)
+
+pub refused_run : (before after : Outside) (ended : Ended) (why : Why) → ended.run ≡ None → ((ended.why ≡ why) ⊎ (ended.why ≡ NoMemory)) → RefusesRun why
+    → IsVerdict before.script.told before.images.told why → Reads (SCRIPT_BYTES + 1) before.script.told after.script.told (cuts_short why) → Writes before.sink after.sink (text_of ended.why)
+    → RunAnswers before after ended
+refused_run before after ended why none told r verdict reads written = record {
+  kind = of_run why ended.why r told;
+  has_run = ap is_some none ∙ sym (hollow why ended.why r told);
+  run = subst (λ o. IfSome o (IsRunOf before.script.told before.images.told)) (sym none) tt;
+  verdict = verdict_refused before.script.told before.images.told why ended.why verdict told;
+  reads = still_read (SCRIPT_BYTES + 1) before.script.told after.script.told why ended.why reads told;
+  written = subst (λ o. WritesRun before.sink after.sink o ended.why) (sym none) written;
+}
+
+false_true : {A : Type 0} → false ≡ true → A
+false_true h = cc
+
+with_run : (why : Why) → has_run why ≡ true → is_of_run why ≡ true
+with_run Done h = refl
+with_run WriteFault h = refl
+with_run NotBuilt h = refl
+with_run ReadFault h = refl
+with_run NoMemory h = refl
+with_run (BadImage line kind) h = refl
+with_run BadWords h = false_true h
+with_run (BadSource line kind) h = false_true h
+
+told_kind : (why : Why) → ((has_run why ≡ true) ⊎ (why ≡ NoMemory)) → is_of_run why ≡ true
+told_kind why (inl h) = with_run why h
+told_kind why (inr e) = ap is_of_run e
+
+some_if : (b : Bool) (run : Run) → is_some (cond b (Some run) None) ≡ b
+some_if true run = refl
+some_if false run = refl
+
+run_if : (P : Run → Type 0) (b : Bool) (run : Run) → P run → IfSome (cond b (Some run) None) P
+run_if P true run h = h
+run_if P false run h = tt
+
+pub told_run : (before after : Outside) (ended : Ended) (run : Run) → ended.run ≡ cond (has_run ended.why) (Some run) None → ((has_run ended.why ≡ true) ⊎ (ended.why ≡ NoMemory)) → IsRunOf before.script.told before.images.told run
+    → IsVerdict before.script.told before.images.told Done → Reads (SCRIPT_BYTES + 1) before.script.told after.script.told false → WritesRun before.sink after.sink ended.run ended.why
+    → RunAnswers before after ended
+told_run before after ended run is told of verdict reads written = record {
+  kind = told_kind ended.why told;
+  has_run = ap is_some is ∙ some_if (has_run ended.why) run;
+  run = subst (λ o. IfSome o (IsRunOf before.script.told before.images.told)) (sym is) (run_if (IsRunOf before.script.told before.images.told) (has_run ended.why) run of);
+  verdict = verdict_told before.script.told before.images.told ended.why verdict told;
+  reads = cut_or_not (SCRIPT_BYTES + 1) before.script.told after.script.told (cuts_short ended.why) reads;
+  written = written;
+}
+
+-- ---- the mode of the words
+
+pub answers_run : (words : Option Mode) (m : Mode) (before after : Outside) (ended : Ended) → words ≡ Some m → m ≡ mode.Run → RunAnswers before after ended → Answers words before after ended
+answers_run words m before after ended is e r = subst (λ o. Answers o before after ended) (sym (is ∙ ap (λ (x : Mode). Some x) e)) r
+
+pub answers_asm : (words : Option Mode) (m : Mode) (before after : Outside) (ended : Ended) → words ≡ Some m → m ≡ mode.Asm → AsmAnswers before.script after.script before.sink after.sink ended → Answers words before after ended
+answers_asm words m before after ended is e r = subst (λ o. Answers o before after ended) (sym (is ∙ ap (λ (x : Mode). Some x) e)) r
+
+pub answers_none : (words : Option Mode) (before after : Outside) (ended : Ended) → words ≡ None → ((ended.why ≡ BadWords) ⊎ (ended.why ≡ NoMemory)) → ended.run ≡ None → Writes before.sink after.sink (text_of ended.why) → Answers words before after ended
+answers_none words before after ended is why none written = subst (λ o. Answers o before after ended) (sym is) (record { why = why; no_run = none; written = written })
