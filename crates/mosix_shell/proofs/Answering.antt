@@ -22,45 +22,6 @@ use Rattle.mosix_shell.proofs.Written.{appends_none}
 use Rattle.mosix_shell.proofs.Readings.{cut_or_not, told_cut}
 use Rattle.mosix_shell.proofs.Verdicts.{verdict_told, verdict_refused}
 
--- ---- the line of an answer
-
-pub line_all : (old new : Seen (List ℕ)) (x : Ended) (status : ℕ) (why : Why) (given line : List ℕ) (u : Unit {0}) → x ≡ record { status = status; why = why; run = None }
-    → Appends old.told new.told given (Ok u) → given ≡ line → line ≡ text_of why → Writes old new (text_of x.why)
-line_all old new x status why given line u is h e f = inl (subst (λ t. Appends old.told new.told t (Ok u)) (e ∙ f ∙ ap (λ (y : Ended). text_of y.why) (sym is)) h)
-
-pub line_front : (old new : Seen (List ℕ)) (x : Ended) (status : ℕ) (why : Why) (given line : List ℕ) (failed : Failed) → x ≡ record { status = status; why = why; run = None }
-    → Appends old.told new.told given (Err failed) → Rose old.faults new.faults → given ≡ line → line ≡ text_of why → Writes old new (text_of x.why)
-line_front old new x status why given line failed is h rose e f = inr (record {
-  failed = failed;
-  front = subst (λ t. Appends old.told new.told t (Err failed)) (e ∙ f ∙ ap (λ (y : Ended). text_of y.why) (sym is)) h;
-  cause = rose;
-})
-
--- where memory is wanting the line is empty
-pub line_none : (a : Seen (List ℕ)) (x : Ended) (status : ℕ) → x ≡ record { status = status; why = NoMemory; run = None } → Writes a a (text_of x.why)
-line_none a x status is = subst (λ (y : Ended). Writes a a (text_of y.why)) (sym is) (inl (appends_none a.told tt))
-
--- ---- the report of a run
-
-text_is : (run : Run) (t text : List ℕ) (st : List (ℕ × PidState)) (fs : List Named) → text ≡ report_text t st fs → t ≡ run.terminal → st ≡ run.statuses → fs ≡ run.files → text ≡ text_of_run run
-text_is run t text st fs e a b f =
-    e ∙ ap (λ (x : List ℕ). report_text x st fs) a ∙ ap (λ (x : List (ℕ × PidState)). report_text run.terminal x fs) b ∙ ap (report_text run.terminal run.statuses) f
-
-pub report_front : (x : Ended) (status : ℕ) (run : Run) (t text given : List ℕ) (st : List (ℕ × PidState)) (fs : List Named) (old new : Seen (List ℕ)) (e : Failed) → x ≡ record { status = status; why = WriteFault; run = Some run }
-    → given ≡ text → text ≡ report_text t st fs → t ≡ run.terminal → st ≡ run.statuses → fs ≡ run.files → Appends old.told new.told given (Err e) → Rose old.faults new.faults → WritesRun old new x.run x.why
-report_front x status run t text given st fs old new e is g q a b f h rose =
-    let own : WritesRun old new (Some run) WriteFault = record { failed = e; front = subst (λ s. Appends old.told new.told s (Err e)) (g ∙ text_is run t text st fs q a b f) h; cause = rose } in
-    subst (λ (y : Ended). WritesRun old new y.run y.why) (sym is) own
-
-pub report_all : (x : Ended) (status : ℕ) (run : Run) (t text given : List ℕ) (st : List (ℕ × PidState)) (fs : List Named) (old new : Seen (List ℕ)) (u : Unit {0}) → x ≡ record { status = status; why = Done; run = Some run }
-    → given ≡ text → text ≡ report_text t st fs → t ≡ run.terminal → st ≡ run.statuses → fs ≡ run.files → Appends old.told new.told given (Ok u) → WritesRun old new x.run x.why
-report_all x status run t text given st fs old new u is g q a b f h =
-    let own : WritesRun old new (Some run) Done = subst (λ s. Appends old.told new.told s (Ok u)) (g ∙ text_is run t text st fs q a b f) h in
-    subst (λ (y : Ended). WritesRun old new y.run y.why) (sym is) own
-
-pub report_none : (a : Seen (List ℕ)) (x : Ended) (status : ℕ) → x ≡ record { status = status; why = NoMemory; run = None } → WritesRun a a x.run x.why
-report_none a x status is = subst (λ (y : Ended). WritesRun a a y.run y.why) (sym is) (inl (appends_none a.told tt))
-
 -- ---- mode `run`
 
 hollow : (why told : Why) → RefusesRun why → ((told ≡ why) ⊎ (told ≡ NoMemory)) → has_run told ≡ false

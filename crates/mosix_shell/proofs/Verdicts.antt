@@ -176,4 +176,4 @@ verdict_refused left files why told v (inr e) = subst (IsVerdict left files) (sy
 -- ---- the run
 
 pub run_of : (left : Option (List ℕ)) (files : Option (List NamedFile)) (name read : List ℕ) (u : UserState) (run : Run) → IsNamed left name → IsLoadedFrom files name u → IsRunOfStory run (story_of u) → IsRunOf left files run
-run_of left files name read u run named loaded r = record { name = name; user = u; named = named; loaded = loaded; replays = replays run u name r; lawful = lawful run u name r }
+run_of left files name read u run named loaded r = record { name = name; user = u; named = named; loaded = loaded; told = r; replays = replays run u name r; lawful = lawful run u name r }

@@ -6,7 +6,8 @@ use Rattle.user_spec.specs.User.{UserState}
 use Rattle.elf_load.specs.Image.{image_of}
 use Rattle.mosix_shell.specs.Told.{WhereTold}
 use Rattle.mosix_shell.specs.Script.{name_in, script_of}
-use Rattle.mosix_shell.specs.Turns.{ends, quantum_steps}
+use Rattle.mosix_shell.specs.Turns.{ends, quantum_steps, story_of}
+use Rattle.mosix_shell.specs.Running.{IsRunOfStory}
 use Rattle.mosix_shell.specs.Headline.{Replays, IsLawful}
 use Rattle.mosix_shell.specs.declared.run.Run.{Run}
 use Rattle.mosix_shell.specs.declared.why.Why.{Why}
@@ -85,6 +86,8 @@ pub record IsRunOf (script : Option (List ℕ)) (files : Option (List NamedFile)
   pub user : UserState
   pub named : IsNamed script name
   pub loaded : IsLoadedFrom files name user
+  -- it tells the whole story of its process, and nothing else
+  pub told : IsRunOfStory run (story_of user)
   pub replays : Replays (user ∷ []) (script_of name) run
   pub lawful : IsLawful quantum_steps (user ∷ []) (script_of name) run
 

@@ -8,13 +8,10 @@ ghost use Rattle.mosix_shell.specs.Assembling.{IsMadeFrom, IsReadPast};
 use crate::reading::{ReadError, read_to};
 use crate::why::Why;
 use call_table::Bytes;
-use call_table::limit::SOURCE_BYTES;
+use call_table::limit::{PIECE_BYTES, SOURCE_BYTES};
 use outside::{Failed, Sink, Source};
 use rv_asm::{AsmError, assemble};
 use std::alloc::Global;
-
-/// A file is written in pieces of at most this length.
-const PIECE_BYTES: usize = 65_536;
 
 /// The text of a source, or so much of it that it is longer than the limit too.
 #[tactic(auto, using(crate::proofs::Assemblies::read_past, crate::proofs::Readings::all_read))]
@@ -57,7 +54,7 @@ pub fn write_file<O: Sink>(out: &mut O, file: &[u8]) -> Result<(), Failed>
 {
     let mut rest = file;
     while !rest.is_empty() {
-        let (piece, more) = rest.split_at(rest.len().min(PIECE_BYTES));
+        let (piece, more) = rest.split_at(rest.len().min(PIECE_BYTES as usize));
         match out.write_all(piece) {
             Ok(()) => {}
             Err(e) => return Err(e),

@@ -111,11 +111,7 @@ fn run_user(alloc: Global, user: User) -> Result<Run, Why>
 
 /// From the script to its run.
 #[tactic(auto, using(crate::proofs::Readings::cut_or_not))]
-fn run_of<S: Source, I: Images>(
-    alloc: Global,
-    script: &mut S,
-    images: &mut I,
-) -> Result<Run, Why>
+fn run_of<S: Source, I: Images>(alloc: Global, script: &mut S, images: &mut I) -> Result<Run, Why>
     ensures run { IfOk result (IsRunOf (S.left script.old) (I.files images.old)) }
     ensures verdict { IsVerdict (S.left script.old) (I.files images.old) (why_of result) }
     ensures reads { Reads (SCRIPT_BYTES + 1) (S.left script.old) (S.left script.new) (is_cut result) }

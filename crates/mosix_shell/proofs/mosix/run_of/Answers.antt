@@ -15,4 +15,4 @@ pub returns-in-Ok-run_user-clause-verdict : goal.returns-in-Ok-run_user-clause-v
 returns-in-Ok-run_user-clause-verdict g c = verdict_done _ _ c.in-Ok.name c.in-Ok-image_user.user c.in-Ok.ensures.name.0 c.in-Ok-image_user.ensures.user.named c.in-Ok-run_user.ensures.run.ended
 
 pub returns-clause-verdict : goal.returns-clause-verdict
-returns-clause-verdict g c = verdict_unbuilt _ _ c.in-Ok.name c.in-Ok-image_user.user c.in-Err-run_user.why c.in-Ok.ensures.name.0 c.in-Ok-image_user.ensures.user.named c.in-Err-run_user.ensures.others (λ e. c.in-Err-run_user.ensures.unbuilt (ap (λ w. Err w) e))
+returns-clause-verdict g c = verdict_unbuilt _ _ c.in-Ok.name c.in-Ok-image_user.user c.in-Err-run_user.why c.in-Ok.ensures.name.0 c.in-Ok-image_user.ensures.user.named c.in-Err-run_user.ensures.others.1 (λ e. c.in-Err-run_user.ensures.unbuilt (ap (λ w. Err w) e))
