@@ -1,25 +1,20 @@
 -- What is written, and what each mode promises.
-use Rattle.std.proofs.Common.{◌≡◌, ◌⊎◌, inl, inr, ℕ, ◌+◌, List, refl, ap, ◌∙◌, sym, subst, Option, Some, None, Ok, Err, Bool, true, false, cond, is_some, IfSome}
+use Rattle.std.proofs.Common.{◌≡◌, ◌⊎◌, inl, inr, ◌+◌, refl, ap, ◌∙◌, sym, subst, Option, Some, None, Bool, true, false, cond, is_some, IfSome}
 use Rattle.call_table.specs.declared.limit.TheConstants.{SCRIPT_BYTES}
-use Rattle.call_table.specs.declared.files.Named.{Named}
-use Rattle.call_table.specs.declared.process.PidState.{PidState}
-use Rattle.outside.specs.Outside.{Appends, Rose}
-use Rattle.outside.specs.declared.traits.Failed.{Failed}
-use Rattle.mosix_shell.specs.Report.{report_text}
-use Rattle.mosix_shell.specs.Told.{Seen, Outside}
+use Rattle.mosix_shell.specs.Told.{Outside}
 use Rattle.mosix_shell.specs.Reading.{Reads}
 use Rattle.mosix_shell.specs.Why.{text_of, has_run, is_of_run, cuts_short, RefusesRun}
-use Rattle.mosix_shell.specs.Writing.{Writes, WritesRun, text_of_run}
+use Rattle.mosix_shell.specs.Writing.{Writes, WritesRun}
 use Rattle.mosix_shell.specs.Verdict.{IsRunOf, IsVerdict}
-use Rattle.mosix_shell.specs.Answers.{RunAnswers, AsmAnswers, RefusesWords, Answers}
+use Rattle.mosix_shell.specs.Answers.{RunAnswers, AsmAnswers, Answers}
 use Rattle.mosix_shell.specs.declared.run.Run.{Run}
 use Rattle.mosix_shell.specs.declared.mosix.Ended.{Ended}
 use Rattle.mosix_shell.specs.declared.why.Why.{Why}
 use Rattle.mosix_shell.specs.declared.why.Why.TheVariants.{Done, BadWords, BadImage, ReadFault, WriteFault, NoMemory, NotBuilt, BadSource}
 use Rattle.mosix_shell.specs.declared.words.Mode.{Mode}
 use Rattle.mosix_shell.specs.declared.words.Mode.TheVariants as mode
-use Rattle.mosix_shell.proofs.Written.{appends_none}
-use Rattle.mosix_shell.proofs.Readings.{cut_or_not, told_cut}
+use Rattle.mosix_shell.proofs.Truth.{false_true}
+use Rattle.mosix_shell.proofs.Readings.{cut_or_not, still_read}
 use Rattle.mosix_shell.proofs.Verdicts.{verdict_told, verdict_refused}
 
 -- ---- mode `run`
@@ -32,10 +27,6 @@ of_run : (why told : Why) → RefusesRun why → ((told ≡ why) ⊎ (told ≡ N
 of_run why told r (inl e) = ap is_of_run e ∙ r.of_run
 of_run why told r (inr e) = ap is_of_run e
 
-still_read : (most : ℕ) (left now : Option (List ℕ)) (why told : Why) → Reads most left now (cuts_short why) → ((told ≡ why) ⊎ (told ≡ NoMemory)) → Reads most left now (cuts_short told)
-still_read most left now why told r (inl e) = subst (λ w. Reads most left now (cuts_short w)) (sym e) r
-still_read most left now why told r (inr e) = subst (λ w. Reads most left now (cuts_short w)) (sym e) (told_cut most left now (cuts_short why) r)
-
 pub refused_run : (before after : Outside) (ended : Ended) (why : Why) → ended.run ≡ None → ((ended.why ≡ why) ⊎ (ended.why ≡ NoMemory)) → RefusesRun why
     → IsVerdict before.script.told before.images.told why → Reads (SCRIPT_BYTES + 1) before.script.told after.script.told (cuts_short why) → Writes before.sink after.sink (text_of ended.why)
     → RunAnswers before after ended
@@ -47,9 +38,6 @@ refused_run before after ended why none told r verdict reads written = record {
   reads = still_read (SCRIPT_BYTES + 1) before.script.told after.script.told why ended.why reads told;
   written = subst (λ o. WritesRun before.sink after.sink o ended.why) (sym none) written;
 }
-
-false_true : {A : Type 0} → false ≡ true → A
-false_true h = cc
 
 with_run : (why : Why) → has_run why ≡ true → is_of_run why ≡ true
 with_run Done h = refl

@@ -1,17 +1,16 @@
 -- What mode `asm` makes of a source's text, and what it writes.
-use Rattle.std.proofs.Common.{◌≡◌, ℕ, ◌+◌, ◌<◌, ◌≤◌, List, [], length, take, min, refl, ap, ◌∙◌, sym, subst, arith, Option, Some, None, Result, Ok, Err, Bool, true, false, cond, nat_lt, ◌⊎◌, inl, inr}
+use Rattle.std.proofs.Common.{◌≡◌, ℕ, ◌+◌, ◌<◌, ◌≤◌, List, [], length, refl, ap, ◌∙◌, sym, subst, arith, Option, Some, None, Result, Ok, Err, true, false, cond, nat_lt, ◌⊎◌, inl, inr}
 use Rattle.std.proofs.lemmas.List.{take_all, length-take}
+use Rattle.std.proofs.lemmas.Bool.{cases_lt}
 use Rattle.std.proofs.lemmas.Bool.Decides.{nat_tests}
 use Rattle.outside.specs.Outside.{Appends, Rose}
 use Rattle.outside.specs.declared.traits.Failed.{Failed}
 use Rattle.rv_asm.specs.Assembly.{assembled, assembled_lines, text_limit}
 use Rattle.rv_asm.specs.Lines.{lines_of}
-use Rattle.rv_asm.specs.Refusals.{IsRefusal}
 use Rattle.rv_asm.specs.declared.fault.Fault.{Fault}
 use Rattle.rv_asm.specs.declared.fault.FaultKind.TheVariants.{TooLong}
-use Rattle.rv_asm.specs.declared.fault.AsmError.TheVariants.{Source}
 use Rattle.asm_laws.proofs.Loads.{text_loads}
-use Rattle.mosix_shell.proofs.Readings.{told_cut}
+use Rattle.mosix_shell.proofs.Readings.{still_read}
 use Rattle.call_table.specs.declared.limit.TheConstants.{SOURCE_BYTES}
 use Rattle.mosix_shell.specs.Reading.{IsReadTo, Reads}
 use Rattle.mosix_shell.specs.Told.{Seen}
@@ -19,7 +18,7 @@ use Rattle.mosix_shell.specs.Why.{text_of, cuts_short}
 use Rattle.mosix_shell.specs.Writing.{Writes}
 use Rattle.mosix_shell.specs.Answers.{AsmAnswers}
 use Rattle.mosix_shell.specs.declared.mosix.Ended.{Ended}
-use Rattle.mosix_shell.specs.Assembling.{IsReadPast, IsTextOf, IsMadeOf, IsFaultOf, IsMadeFrom, WritesFile, IsAssembly}
+use Rattle.mosix_shell.specs.Assembling.{IsReadPast, IsMadeOf, IsFaultOf, IsMadeFrom, WritesFile, IsAssembly}
 use Rattle.mosix_shell.specs.declared.why.Why.{Why}
 use Rattle.mosix_shell.specs.declared.why.Why.TheVariants.{Done, BadWords, BadImage, ReadFault, WriteFault, NoMemory, NotBuilt, BadSource}
 
@@ -36,13 +35,10 @@ not_long n h = grind (arith, nat_tests)
 too_long : (text : List ℕ) → text_limit < length text → assembled text ≡ Err (record { line = 0; kind = TooLong })
 too_long text h = ap (λ b. cond b (Err (record { line = 0; kind = TooLong })) (assembled_lines (lines_of text))) (not_long (length text) h)
 
-lt_or_le : (a b : ℕ) → (a < b) ⊎ (b ≤ a)
-lt_or_le a b = grind arith
-
 -- what is longer than the limit is refused by its length alone
 same_outcome : (limit : ℕ) (left text : List ℕ) → text_limit ≤ limit → IsReadPast limit (Some left) text → assembled text ≡ assembled left
 same_outcome limit left text most h =
-    elim (lt_or_le limit (length left)) as (λ _. assembled text ≡ assembled left) [
+    elim (cases_lt limit (length left)) as (λ _. assembled text ≡ assembled left) [
       | inl long ↦ let more : limit < length text = h.1 long in too_long text (omega arith) ∙ sym (too_long left (omega arith))
       | inr short ↦ ap assembled (h.0 short)
     ]
@@ -91,10 +87,6 @@ wrote_front left old new file given f m same a rose = record {
 }
 
 -- ---- what the mode promises
-
-still_read : (most : ℕ) (left now : Option (List ℕ)) (why told : Why) → Reads most left now (cuts_short why) → ((told ≡ why) ⊎ (told ≡ NoMemory)) → Reads most left now (cuts_short told)
-still_read most left now why told r (inl e) = subst (λ w. Reads most left now (cuts_short w)) (sym e) r
-still_read most left now why told r (inr e) = subst (λ w. Reads most left now (cuts_short w)) (sym e) (told_cut most left now (cuts_short why) r)
 
 fault_told : (why told : Why) (before now : ℕ) → (why ≡ ReadFault → Rose before now) → ((told ≡ why) ⊎ (told ≡ NoMemory)) → told ≡ ReadFault → Rose before now
 fault_told why told before now h (inl e) is = h (sym e ∙ is)

@@ -1,7 +1,6 @@
 -- A call and a fault leave as many processes as there were.
-use Rattle.std.proofs.Common.{◌≡◌, ℕ, zero, suc, List, length, refl, ap, ◌∙◌, sym, subst, Option, Some, None, Bool, true, false, cond, ◌==◌, slice_index, pos, nat_le, ℤ, ◌%◌, ◌++◌}
+use Rattle.std.proofs.Common.{◌≡◌, ℕ, List, length, refl, subst, Option, Some, None, Bool, true, false, cond, ◌==◌, slice_index, pos, nat_le, ℤ, ◌%◌, ◌++◌}
 use Rattle.std.specs.Option.{option_map, option_and_then}
-use Rattle.call_table.specs.declared.process.End.{End}
 use Rattle.call_table.specs.declared.process.End.TheVariants.{Exit}
 use Rattle.call_table.specs.declared.request.Request.{Request}
 use Rattle.node_event.specs.declared.event.Way.{Way}
@@ -20,8 +19,8 @@ use Rattle.call_table.specs.declared.call.TheConstants.{EXIT, OPEN, CLOSE, READ,
 use Rattle.kernel_spec.specs.Io.{IoState}
 use Rattle.kernel_spec.proofs.PidLemmas.{length-set_pid}
 use Rattle.kernel_spec.specs.Kernel.{KernelState, Called, answers, exited, given}
-use Rattle.kernel_spec.specs.Calls.{call_result, call_row, read_typed, read_result, read_in, read_at, can_read, write_result, write_in, write_at, can_write, with_write, room_of, shown}
-use Rattle.one_node.specs.Machine.{MachineState, live_user, done_of, fault_of, with_fall, Served, served, served_at, answered, with_served}
+use Rattle.kernel_spec.specs.Calls.{call_result, call_row, read_typed, read_in, read_at, can_read, write_in, write_at, can_write, with_write, room_of, shown}
+use Rattle.one_node.specs.Machine.{MachineState, live_user, done_of, fault_of, with_fall, served_at, answered, with_served}
 use Rattle.mosix_shell.specs.Turns.{served_machine}
 
 abbrev CalledKeeps : Option Called → ℕ → Type 0

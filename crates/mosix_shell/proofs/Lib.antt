@@ -1,3 +1,4 @@
+pub mod Truth
 pub mod Written
 pub mod Ascii
 pub mod Walks

@@ -1,10 +1,9 @@
 -- The one process of a run is in one place: at home, until its end was given back.
-use Rattle.std.proofs.Common.{◌≡◌, ◌≢◌, ◌⊎◌, inl, inr, ℕ, ℤ, zero, suc, ◌<◌, ◌≤◌, List, [], ◌∷◌, length, slice_get, refl, ap, ◌∙◌, sym, subst, arith, Option, Some, None, Bool, true, false, cond, nat_eq, ◌==◌, ◌&&◌, is_some}
-use Rattle.std.proofs.lemmas.Option.{none-some, same_Some}
-use Rattle.std.proofs.lemmas.Bool.Decides.{nat_tests, eqb_tells}
+use Rattle.std.proofs.Common.{◌≡◌, ◌≢◌, ◌⊎◌, inl, inr, ℕ, ℤ, zero, suc, List, [], ◌∷◌, length, slice_get, refl, ap, ◌∙◌, sym, subst, arith, Option, Some, None, Bool, true, false, cond, ◌==◌, ◌&&◌, is_some}
+use Rattle.std.proofs.lemmas.Option.{none-some}
+use Rattle.std.proofs.lemmas.Bool.Decides.{nat_tests}
 use Rattle.call_table.specs.declared.process.End.{End}
 use Rattle.node_event.specs.declared.event.Event.{Event}
-use Rattle.node_event.specs.declared.event.What.{What}
 use Rattle.node_event.specs.declared.event.What.TheVariants.{Steps, Sent, Served, Got}
 use Rattle.node_event.specs.declared.event.Way.{Way}
 use Rattle.node_event.specs.declared.script.ScriptLine.{ScriptLine}
@@ -16,7 +15,8 @@ use Rattle.mosix_shell.specs.History.{machine_of}
 use Rattle.mosix_shell.specs.declared.phase.Phase.{Phase}
 use Rattle.mosix_shell.specs.declared.phase.Phase.TheVariants.{Goes, Waits, IsServed}
 use Rattle.mosix_shell.specs.Turns.{Moment, event_after, first_event, first_moment}
-use Rattle.mosix_shell.specs.OnePlace.{Place, At, without, is_pid, places_after, places, ArePlaced, PlacedIn, OnePlace}
+use Rattle.mosix_shell.proofs.Truth.{false_true}
+use Rattle.mosix_shell.specs.OnePlace.{Place, At, without, places, ArePlaced, PlacedIn}
 
 -- its end was given back
 abbrev pub is_gone : Phase → MachineState → Bool
@@ -54,9 +54,6 @@ not_gone : (phase : Phase) (m : MachineState) → is_live m.kernel 1 ≡ true �
 not_gone Goes m h = still_live m.kernel 1 h
 not_gone (Waits number) m h = refl
 not_gone IsServed m h = refl
-
-false_true : {A : Type 0} → false ≡ true → A
-false_true h = cc
 
 some_end : {A B : Type 0} (o : Option A) (x : A) → o ≡ None → o ≡ Some x → B
 some_end o x none some = absurd (none-some x (sym none ∙ some))

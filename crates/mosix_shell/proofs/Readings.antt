@@ -1,13 +1,14 @@
 -- How many bytes a reading takes.
-use Rattle.std.proofs.Common.{◌≡◌, ℕ, ◌+◌, ◌≤◌, List, ◌++◌, length, drop, refl, ap, ◌∙◌, sym, subst, arith, Option, Some, None, Ok, Err, Bool, true, false}
+use Rattle.std.proofs.Common.{◌≡◌, ◌⊎◌, inl, inr, ℕ, ◌+◌, ◌≤◌, List, ◌++◌, length, drop, refl, ap, ◌∙◌, sym, subst, arith, Option, Some, None, Ok, Err, Bool, true, false}
 use Rattle.std.specs.Option.{option_map}
 use Rattle.std.proofs.lemmas.List.{drop_at, drop-drop}
 use Rattle.outside.specs.Outside.{Takes}
 use Rattle.outside.specs.declared.traits.Failed.{Failed}
+use Rattle.mosix_shell.specs.Why.{cuts_short}
+use Rattle.mosix_shell.specs.declared.why.Why.{Why}
+use Rattle.mosix_shell.specs.declared.why.Why.TheVariants.{NoMemory}
+use Rattle.mosix_shell.proofs.Truth.{true_false}
 use Rattle.mosix_shell.specs.Reading.{IsReadOn, IsReadTo, Reads}
-
-true_false : {A : Type 0} → true ≡ false → A
-true_false h = cc
 
 -- what was read stands before what is left
 behind : (left bytes rest : List ℕ) → left ≡ bytes ++ rest → drop (length bytes) left ≡ rest
@@ -56,5 +57,10 @@ all_read most left now bytes h = record { taken = most; few = omega arith; rest 
 pub cut_or_not : (most : ℕ) (left now : Option (List ℕ)) (cut : Bool) → Reads most left now false → Reads most left now cut
 cut_or_not most left now cut r = record { taken = r.taken; few = r.few; rest = r.rest; whole = λ e. r.whole refl }
 
-pub told_cut : (most : ℕ) (left now : Option (List ℕ)) (cut : Bool) → Reads most left now cut → Reads most left now true
+told_cut : (most : ℕ) (left now : Option (List ℕ)) (cut : Bool) → Reads most left now cut → Reads most left now true
 told_cut most left now cut r = record { taken = r.taken; few = r.few; rest = r.rest; whole = λ h. true_false h }
+
+-- an answer, or want of memory in its place
+pub still_read : (most : ℕ) (left now : Option (List ℕ)) (why told : Why) → Reads most left now (cuts_short why) → ((told ≡ why) ⊎ (told ≡ NoMemory)) → Reads most left now (cuts_short told)
+still_read most left now why told r (inl e) = subst (λ w. Reads most left now (cuts_short w)) (sym e) r
+still_read most left now why told r (inr e) = subst (λ w. Reads most left now (cuts_short w)) (sym e) (told_cut most left now (cuts_short why) r)

@@ -1,5 +1,5 @@
 -- A whole run keeps what its history tells, and where the process has ended, every process has.
-use Rattle.std.proofs.Common.{◌≡◌, ℕ, zero, suc, ◌≤◌, List, [], ◌∷◌, length, refl, ap, ◌∙◌, sym, subst, arith, Option, Some, None, Bool, true, false, cond, nat_eq, ◌==◌, is_some}
+use Rattle.std.proofs.Common.{◌≡◌, ℕ, zero, suc, ◌≤◌, List, [], ◌∷◌, length, refl, ap, ◌∙◌, sym, arith, Option, Some, None, Bool, true, false, cond, nat_eq, ◌==◌, is_some}
 use Rattle.std.specs.Option.{option_and_then}
 use Rattle.std.proofs.lemmas.Option.{none-some}
 use Rattle.node_event.specs.declared.event.Event.{Event}
@@ -12,15 +12,16 @@ use Rattle.one_node.specs.Machine.{MachineState, live_user, ended_of, with_user,
 use Rattle.kernel_spec.specs.Kernel.{given, is_live}
 use Rattle.kernel_spec.specs.Processes.{at_pid}
 use Rattle.kernel_spec.proofs.PidLemmas.{length-set_pid}
-use Rattle.mosix_shell.specs.OnceLaw.{phase_of, number_asked, way_for}
+use Rattle.mosix_shell.specs.OnceLaw.{number_asked, way_for}
 use Rattle.mosix_shell.specs.declared.phase.Phase.{Phase}
 use Rattle.mosix_shell.specs.declared.phase.Phase.TheVariants.{Goes, Waits, IsServed}
-use Rattle.mosix_shell.specs.Turns.{Moment, Turned, Makes, IsOver, IsUnbuilt, turn_of, turn_in, go_turn, going_turn, sent_turn, steps_turn, serve_turn, served_turn, served_what, served_machine, got_turn, event_after, first_event, first_moment, Story, story, told_by, is_over}
+use Rattle.mosix_shell.specs.Turns.{Moment, Turned, Makes, IsOver, IsUnbuilt, turn_of, turn_in, go_turn, sent_turn, steps_turn, served_turn, served_what, served_machine, event_after, first_event, first_moment, Story, story, told_by, is_over}
 use Rattle.mosix_shell.specs.Script.{script_of}
 use Rattle.mosix_shell.proofs.Walks.{IsWalk, quantum_is}
 use Rattle.mosix_shell.proofs.Telling.{Told, told_steps, told_sent, told_served, told_got}
 use Rattle.mosix_shell.specs.OnePlace.{OnePlace}
 use Rattle.mosix_shell.proofs.Kernels.{served_keeps}
+use Rattle.mosix_shell.proofs.Truth.{true_false}
 use Rattle.mosix_shell.proofs.Placing.{IsHome, past_live, placed_in, home_steps, home_sent, home_served, home_got, none_placed, home_start}
 
 -- what was sent is what the process asks
@@ -28,9 +29,6 @@ abbrev IsAsked : Phase → MachineState → Type 0
 IsAsked (Waits number) m = number_asked m 1 ≡ Some number
 IsAsked Goes m = Unit {0}
 IsAsked IsServed m = Unit {0}
-
-true-false : true ≡ false → ⊥
-true-false h = cc
 
 -- what is kept: what the history tells, and that there is one process
 pub record Kept (q : ℕ) (setup : List UserState) (script : List ScriptLine) (es : List Event) (now : Moment) : Type 0 where
@@ -169,7 +167,7 @@ going_on m u w false asked = refl
 
 no_more : (q : ℕ) (m : MachineState) (o : Option UserState) → is_over (go_turn q m o) ≡ true → o ≡ None
 no_more q m None h = refl
-no_more q m (Some u) h = let e = going_on m u (quantum_of q u) ((quantum_of q u).went == 0) (asked_number (request_of u)) in absurd (true-false (sym h ∙ e))
+no_more q m (Some u) h = let e = going_on m u (quantum_of q u) ((quantum_of q u).went == 0) (asked_number (request_of u)) in true_false (sym h ∙ e)
 
 served_on : (number : ℕ) (m : MachineState) (o : Option MachineState) → is_over (served_turn number m o) ≡ false
 served_on number m None = refl
@@ -177,8 +175,8 @@ served_on number m (Some n) = refl
 
 finished_in : (q : ℕ) (m : MachineState) (phase : Phase) → given m.kernel ≡ 1 → length m.users ≡ 1 → is_over (turn_in phase q m) ≡ true → IsFinished (record { machine = m; phase = phase })
 finished_in q m Goes one user h = record { goes = refl; all = all_ended m one (not_live (is_live m.kernel 1) m.users user (no_more q m (live_user m 1) h)) }
-finished_in q m (Waits number) one user h = absurd (true-false (sym h ∙ served_on number m (served_machine (way_for number) m)))
-finished_in q m IsServed one user h = absurd (true-false (sym h))
+finished_in q m (Waits number) one user h = true_false (sym h ∙ served_on number m (served_machine (way_for number) m))
+finished_in q m IsServed one user h = true_false (sym h)
 
 pub finished : (q : ℕ) (setup : List UserState) (script : List ScriptLine) (s : Story) → IsTold q setup script s → s.ended ≡ true → IsFinished s.last
 finished q setup script s t h = finished_in q s.last.machine s.last.phase t.kept.single t.kept.context (sym t.over ∙ h)

@@ -1,30 +1,28 @@
 -- What a history tells: it plays to the moment's machine, and keeps the laws. One turn more keeps all of it.
-use Rattle.std.proofs.Common.{◌≡◌, ◌≢◌, ℕ, zero, suc, ◌+◌, ◌-◌, ◌<◌, ◌≤◌, List, [], ◌∷◌, ◌++◌, length, slice_get, slice_set, refl, ap, ◌∙◌, sym, subst, arith, add-zero, Option, Some, None, Bool, true, false, cond, nat_eq, ◌==◌, is_some, count_by, is_none, ℤ}
+use Rattle.std.proofs.Common.{◌≡◌, ℕ, ◌+◌, ◌≤◌, List, [], ◌∷◌, ◌++◌, slice_get, refl, ap, ◌∙◌, sym, subst, arith, add-zero, Option, Some, None, Bool, true, false, cond, nat_eq, ◌==◌, is_some}
 use Rattle.std.specs.Option.{option_map, option_and_then}
-use Rattle.std.proofs.lemmas.Option.{none-some, same_Some}
+use Rattle.std.proofs.lemmas.Option.{none-some}
 use Rattle.std.proofs.lemmas.Bool.Decides.{nat_tests}
 use Rattle.node_event.specs.declared.event.Event.{Event}
 use Rattle.node_event.specs.declared.event.What.{What}
-use Rattle.node_event.specs.declared.event.What.TheVariants.{Command, Steps, Sent, Served, Got}
+use Rattle.node_event.specs.declared.event.What.TheVariants.{Command, Steps, Sent, Got}
 use Rattle.node_event.specs.declared.event.Way.{Way}
 use Rattle.node_event.specs.declared.event.Way.TheVariants.{Did, Broke, Fell, Paused}
 use Rattle.node_event.specs.declared.script.ScriptLine.{ScriptLine}
 use Rattle.user_spec.specs.User.{UserState}
-use Rattle.user_spec.specs.Advance.{Went, Done, AtCall, Faults, advance, advanced, Walk, quantum_of, request_of, asked_number}
+use Rattle.user_spec.specs.Advance.{advanced, Walk}
 use Rattle.kernel_spec.specs.Kernel.{is_live}
 use Rattle.kernel_spec.specs.Processes.{at_pid, set_pid}
-use Rattle.one_node.specs.Machine.{MachineState, start, live_user, ended_of, with_user, done_of, fallen, played, machine_step, and_then, steps_of}
+use Rattle.one_node.specs.Machine.{MachineState, live_user, ended_of, with_user, played, machine_step, and_then, steps_of}
 use Rattle.mosix_shell.specs.Schedule.{event_steps, served_step}
 use Rattle.mosix_shell.specs.History.{machine_of, AreStamped}
 use Rattle.mosix_shell.specs.ScriptLaw.{ScriptLaw, ScriptAt, command_count, commands_in}
-use Rattle.mosix_shell.specs.OnceLaw.{OnceLaw, OnceAt, OnceBetween, phase_of, phase_after, number_asked, way_for, IsWay, IsWaitingFor, IsQuantum, ServedAs, GotAs}
-use Rattle.mosix_shell.specs.declared.phase.Phase.{Phase}
+use Rattle.mosix_shell.specs.OnceLaw.{OnceLaw, OnceAt, OnceBetween, phase_of, phase_after, number_asked, way_for, IsWay, IsWaitingFor, IsQuantum}
 use Rattle.mosix_shell.specs.declared.phase.Phase.TheVariants.{Goes, Waits, IsServed}
 use Rattle.one_node.specs.declared.step.Step.{Step}
 use Rattle.one_node.specs.declared.step.Step.TheVariants as step
-use Rattle.mosix_shell.specs.Turns.{Moment, Turned, Makes, IsOver, IsUnbuilt, turn_of, turn_in, go_turn, going_turn, sent_turn, steps_turn, serve_turn, served_turn, served_what, served_machine, got_turn, event_after, first_event, first_moment}
-use Rattle.mosix_shell.specs.Script.{script_of}
-use Rattle.mosix_shell.proofs.Walks.{IsWalk, quantum_is}
+use Rattle.mosix_shell.specs.Turns.{Moment, served_what, served_machine, event_after}
+use Rattle.mosix_shell.proofs.Walks.{IsWalk}
 
 pub record Told (quantum : ℕ) (setup : List UserState) (script : List ScriptLine) (es : List Event) (now : Moment) : Type 0 where
   pub plays : machine_of setup script es ≡ Some now.machine

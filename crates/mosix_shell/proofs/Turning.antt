@@ -1,5 +1,5 @@
 -- Turns in the code are turns by definition, and make a story.
-use Rattle.std.proofs.Common.{◌≡◌, ◌≢◌, ℕ, zero, suc, ◌+◌, ◌-◌, ◌<◌, ◌≤◌, List, [], ◌∷◌, reverse, refl, ap, ◌∙◌, sym, subst, arith, Option, Some, None, Bool, true, false, cond, ◌==◌, lit≤}
+use Rattle.std.proofs.Common.{◌≡◌, ℕ, zero, suc, ◌+◌, ◌-◌, ◌<◌, ◌≤◌, List, [], ◌∷◌, reverse, refl, ap, ◌∙◌, sym, subst, arith, Option, Some, None, Bool, true, false, cond, ◌==◌, lit≤}
 use Rattle.std.specs.Option.{option_map}
 use Rattle.std.proofs.lemmas.Option.{none-some}
 use Rattle.std.proofs.lemmas.Bool.Decides.{nat_tests}
@@ -14,14 +14,14 @@ use Rattle.user_spec.specs.Advance.{Walk, quantum_of, request_of, asked_number}
 use Rattle.kernel_spec.specs.Kernel.{is_live}
 use Rattle.kernel_spec.specs.Processes.{at_pid, set_pid}
 use Rattle.one_node.specs.Machine.{MachineState, live_user, ended_of, with_user}
-use Rattle.one_node.specs.Going.{Gone, gone, gone_on, gone_in, GoneIn, asks_of, replied_in, fell_in}
+use Rattle.one_node.specs.Going.{gone, gone_on, gone_in, GoneIn, asks_of, replied_in, fell_in}
 use Rattle.one_node.proofs.Quanta.{asks_there}
 use Rattle.one_node.proofs.Applies.{serves_one, serves_none, falls_as, none_gained}
 use Rattle.mosix_shell.specs.OnceLaw.{way_for}
 use Rattle.mosix_shell.specs.declared.phase.Phase.{Phase}
 use Rattle.mosix_shell.specs.declared.phase.Phase.TheVariants.{Goes, Waits, IsServed}
 use Rattle.one_node.specs.declared.going.Ran.TheVariants as ran
-use Rattle.mosix_shell.specs.Turns.{Moment, Turned, Makes, IsOver, IsUnbuilt, turn_of, go_turn, going_turn, sent_turn, steps_turn, serve_turn, served_turn, event_after, Story, story, story_of, told_by, is_over, quantum_steps, later_events, first_event, first_moment}
+use Rattle.mosix_shell.specs.Turns.{Moment, Makes, IsOver, IsUnbuilt, turn_of, go_turn, sent_turn, steps_turn, serve_turn, served_turn, event_after, Story, story, story_of, told_by, is_over, quantum_steps, later_events, first_event, first_moment}
 use Rattle.mosix_shell.specs.Running.{EndsAs, Finishes, IsRunOfStory}
 use Rattle.mosix_shell.specs.declared.run.Run.{Run}
 use Rattle.one_node.specs.declared.going.Ran.{Ran}

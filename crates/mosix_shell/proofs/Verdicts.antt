@@ -7,7 +7,6 @@ use Rattle.outside.specs.Outside.{NamedFile, file_named, Loaded}
 use Rattle.user_spec.specs.User.{UserState}
 use Rattle.elf_load.specs.Image.{image_of}
 use Rattle.mosix_shell.specs.Turns.{story_of}
-use Rattle.mosix_shell.specs.Script.{script_of}
 use Rattle.mosix_shell.specs.Running.{IsRunOfStory}
 use Rattle.mosix_shell.specs.Told.{WhereTold}
 use Rattle.mosix_shell.specs.Why.{has_run, RefusesRun}
@@ -15,6 +14,7 @@ use Rattle.mosix_shell.specs.Verdict.{IsNamed, IsUnnamed, IsImaged, IsLoadedFrom
 use Rattle.mosix_shell.specs.declared.run.Run.{Run}
 use Rattle.mosix_shell.specs.declared.why.Why.{Why}
 use Rattle.mosix_shell.specs.declared.why.Why.TheVariants.{Done, BadWords, BadImage, ReadFault, WriteFault, NoMemory, NotBuilt, BadSource}
+use Rattle.mosix_shell.proofs.Truth.{false_true}
 use Rattle.mosix_shell.proofs.Headlines.{replays, lawful}
 
 -- ---- the image of a name
@@ -103,9 +103,6 @@ refused_image_is (Some fs) name Done r = tt
 refused_image_is (Some fs) name BadWords r = tt
 refused_image_is (Some fs) name WriteFault r = tt
 refused_image_is (Some fs) name (BadSource line kind) r = tt
-
-false_true : {A : Type 0} → false ≡ true → A
-false_true h = cc
 
 image_fate : (left : Option (List ℕ)) (files : Option (List NamedFile)) (name : List ℕ) (why : Why) → IsNamed left name → RefusesRun why → IsRefused files name why → WhereTold left (λ s. WhereTold files (λ fs. AsVerdict why (verdict_of s fs)))
 image_fate None files name why named inner r = tt

@@ -1,5 +1,5 @@
 -- What the top call promises in each mode.
-use Rattle.std.specs.Prelude.{◌≡◌, ◌⊎◌, ℕ, ◌+◌, List, Option, Some, None, IfSome, Bool, true, is_some}
+use Rattle.std.specs.Prelude.{◌≡◌, ◌⊎◌, ℕ, ◌+◌, List, Option, Some, None, IfSome, true, is_some}
 use Rattle.call_table.specs.declared.limit.TheConstants.{SCRIPT_BYTES, SOURCE_BYTES}
 use Rattle.outside.specs.Outside.{Rose}
 use Rattle.mosix_shell.specs.Told.{Seen, Outside}

@@ -1,5 +1,5 @@
 -- The headline of a run: its own events, played on one node, give what it tells, and they are lawful.
-use Rattle.std.specs.Prelude.{◌≡◌, ℕ, List, [], ◌∷◌, reverse, Option, Some}
+use Rattle.std.specs.Prelude.{◌≡◌, ℕ, List, reverse, Some}
 use Rattle.node_event.specs.declared.script.ScriptLine.{ScriptLine}
 use Rattle.fs_memory.specs.Files.{named_files}
 use Rattle.user_spec.specs.User.{UserState}

@@ -1,8 +1,7 @@
 -- The once law: each forwarded call is sent, served once and given back, and each event says what the machine does.
-use Rattle.std.specs.Prelude.{◌≡◌, ◌==◌, ◌≤◌, ◌<◌, if◌then◌else◌, ℕ, ℤ, zero, suc, List, [], ◌∷◌, length, slice_get, Option, Some, None, Bool, true, false, is_some}
+use Rattle.std.specs.Prelude.{◌≡◌, ◌==◌, ◌≤◌, ◌<◌, if◌then◌else◌, ℕ, ℤ, zero, suc, List, [], ◌∷◌, Option, Some, None, Bool, true, false, is_some}
 use Rattle.std.specs.Option.{option_and_then}
 use Rattle.call_table.specs.declared.process.End.{End}
-use Rattle.call_table.specs.declared.process.Reply3.{Reply3}
 use Rattle.node_event.specs.declared.event.Event.{Event}
 use Rattle.node_event.specs.declared.event.What.{What}
 use Rattle.node_event.specs.declared.event.What.TheVariants.{Command, Steps, Sent, Served, Got}

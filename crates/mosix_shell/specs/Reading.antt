@@ -1,5 +1,5 @@
 -- How far a source is read.
-use Rattle.std.specs.Prelude.{◌≡◌, ◌≤◌, ℕ, ◌+◌, ◌<◌, List, ◌++◌, length, take, drop, Bool, true, false, Option, Some, None, Result, Ok, Err, MatchOption}
+use Rattle.std.specs.Prelude.{◌≡◌, ◌≤◌, ℕ, ◌<◌, List, ◌++◌, length, take, drop, Bool, true, false, Option, Some, None, Result, Ok, Err, MatchOption}
 use Rattle.std.specs.Option.{option_map}
 
 -- what was read of a source, where it tells: all of it, or that it is longer than the limit

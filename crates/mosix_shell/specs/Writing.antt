@@ -1,5 +1,5 @@
 -- What is written to the sink.
-use Rattle.std.specs.Prelude.{◌≡◌, ◌⊎◌, ℕ, List, Option, Some, None, Ok, Err}
+use Rattle.std.specs.Prelude.{◌⊎◌, ℕ, List, Option, Some, None, Ok, Err}
 use Rattle.outside.specs.Outside.{Appends, Rose}
 use Rattle.outside.specs.declared.traits.Failed.{Failed}
 use Rattle.mosix_shell.specs.Told.{Seen}

@@ -1,6 +1,6 @@
 -- Served calls and faults as steps of the machine.
-use Rattle.std.proofs.Common.{◌≡◌, ℕ, zero, suc, List, [], ◌∷◌, ◌++◌, length, cond, slice_get, refl, ap, ◌∙◌, sym, subst, Option, Some, None, Bool, true, false, ℤ}
-use Rattle.std.specs.Option.{option_map, option_and_then}
+use Rattle.std.proofs.Common.{◌≡◌, ℕ, List, [], ◌∷◌, ◌++◌, length, cond, slice_get, refl, ap, ◌∙◌, sym, subst, Option, Some, None, Bool, true, false}
+use Rattle.std.specs.Option.{option_map}
 use Rattle.std.proofs.lemmas.Option.{none-some}
 use Rattle.call_table.specs.declared.process.Reply3.{Reply3}
 use Rattle.user_spec.specs.User.{UserState}

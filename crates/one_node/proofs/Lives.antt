@@ -1,7 +1,7 @@
 -- Processes by number, and what the calls on the system leave.
 use Rattle.std.proofs.Common.{◌≡◌, ◌≢◌, ℕ, zero, suc, ◌+◌, ◌-◌, ◌≤◌, List, [], ◌∷◌, ◌++◌, length, cond, slice_get, slice_set, refl, ap, ◌∙◌, sym, subst, arith, Option, Some, None, Bool, true, false}
 use Rattle.std.specs.Prelude.{IsSome}
-use Rattle.std.specs.Option.{option_map, option_and_then}
+use Rattle.std.specs.Option.{option_map}
 use Rattle.std.proofs.lemmas.Option.{none-some}
 use Rattle.call_table.specs.declared.process.End.{End}
 use Rattle.call_table.specs.declared.process.End.TheVariants as ends
@@ -13,14 +13,14 @@ use Rattle.user_spec.specs.Request.{call_request, returned}
 use Rattle.user_spec.specs.Advance.{Went, Done, AtCall, Faults, advance, request_of, asked_at, grows, stepped, Stepped, stepped_as}
 use Rattle.user_spec.specs.declared.outcome.Stop.{Stop}
 use Rattle.user_spec.specs.declared.outcome.Stop.TheVariants as stops
-use Rattle.kernel_spec.specs.Kernel.{KernelState, Called, with_process, with_end, given, is_live, has_room}
+use Rattle.kernel_spec.specs.Kernel.{KernelState, with_process, with_end, given, is_live}
 use Rattle.kernel_spec.specs.Calls.{call_result}
 use Rattle.kernel_spec.specs.Processes.{at_pid, set_pid, is_live_end}
 use Rattle.kernel_spec.proofs.PidLemmas.{set_pid-at, at_pid-at}
 use Rattle.user_ctx.proofs.Calls.{grows_done}
 use Rattle.home_kernel.specs.Serving.{IsLive, Launches}
-use Rattle.one_node.specs.Machine.{MachineState, live_user, with_user, Served, served, served_at, answered, with_served, with_fall, fault_of, signal_in, launched, next_pid}
-use Rattle.one_node.specs.Going.{Gone, gone_on, gone_in, gone, GoneIn, gone_at, GoneAt, Replied, replied, replied_by, RepliedAt, replied_at, RepliedIn, replied_in, replied_on, replied_as, FellIn, fell_in, fell_on, fell_as, Faulted, faulted, FaultedAt, faulted_at}
+use Rattle.one_node.specs.Machine.{MachineState, live_user, Served, served, served_at, answered, with_fall, fault_of, signal_in, launched, next_pid}
+use Rattle.one_node.specs.Going.{gone_on, gone_in, gone, GoneIn, gone_at, GoneAt, Replied, replied, replied_by, RepliedAt, replied_at, RepliedIn, replied_in, replied_on, replied_as, FellIn, fell_in, fell_on, fell_as, Faulted, faulted, FaultedAt, faulted_at}
 use Rattle.one_node.specs.declared.going.Ran.{Ran}
 
 same_some : {A : Type 0} (x y : A) → ◌≡◌ {A = Option A} (Some x) (Some y) → x ≡ y

@@ -1,5 +1,5 @@
 -- The states of processes, one after another.
-use Rattle.std.proofs.Common.{◌≡◌, ℕ, suc, ◌+◌, ◌-◌, ◌<◌, List, [], ◌∷◌, ◌++◌, refl, ap, ◌∙◌, sym, arith, append_assoc}
+use Rattle.std.proofs.Common.{◌≡◌, ℕ, suc, ◌+◌, ◌-◌, ◌<◌, List, [], ◌∷◌, ◌++◌, ap, ◌∙◌, sym, arith, append_assoc}
 use Rattle.call_table.specs.declared.process.PidState.{PidState}
 use Rattle.kernel_spec.specs.Kernel.{KernelState, end_at}
 use Rattle.one_node.specs.Machine.{state_of, statuses_from}

@@ -1,5 +1,5 @@
 -- What the calls on the system leave: what is answered, beside the state after it.
-use Rattle.std.specs.Prelude.{ℕ, ◌==◌, if◌then◌else◌, List, Option, Some, None, Bool, true, false, slice_get, slice_set, unwrap_or}
+use Rattle.std.specs.Prelude.{ℕ, ◌==◌, if◌then◌else◌, List, Option, Some, None, Bool, true, false, slice_set, unwrap_or}
 use Rattle.std.specs.Option.{option_map}
 use Rattle.call_table.specs.declared.process.Reply3.{Reply3}
 use Rattle.user_spec.specs.User.{UserState}

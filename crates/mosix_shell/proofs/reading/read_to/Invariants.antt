@@ -1,4 +1,4 @@
-use Rattle.std.proofs.Common.{◌≡◌, ◌≤◌, ◌-◌, length}
+use Rattle.std.proofs.Common.{◌≤◌, ◌-◌, length}
 use Rattle.mosix_shell.specs.Reading.{IsReadOn}
 use Rattle.mosix_shell.proofs.reading.read_to.Given as goal
 

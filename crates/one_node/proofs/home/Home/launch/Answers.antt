@@ -1,4 +1,4 @@
-use Rattle.std.proofs.Common.{◌≡◌, ◌∙◌, ◌++◌, ◌∷◌, [], ap, sym, Some, List, length, slice_get, arith}
+use Rattle.std.proofs.Common.{◌≡◌, ◌∙◌, ◌++◌, ◌∷◌, [], ap, sym, Some, List, slice_get, arith}
 use Rattle.std.proofs.lemmas.Option.{gets}
 use Rattle.user_spec.specs.User.{UserState}
 use Rattle.one_node.proofs.Lives.{launches_in, state_of}
