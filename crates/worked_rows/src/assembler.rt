@@ -33,8 +33,11 @@ const DATA: [u8; 41] = [
     0x22, 0x0A, 0x5C, 0, 0, 0x67, 0x80, 0, 0, 0x23, 0x2E, 0xA1, 0xFE, 0x6F, 0xF0, 0xDF, 0xFE, 0x80,
 ];
 
+/// A piece of a text, and its words.
+type Statement = (&'static str, &'static [u32]);
+
 /// A text of every statement, and the words that each piece of it stands for. It begins at 0x10000; `ahead` is at 0x10120.
-const STATEMENTS: [(&str, &[u32]); 65] = [
+const STATEMENTS: [Statement; 65] = [
     ("back: lui t0, 0xFFFFF", &[0xFFFF_F2B7]),
     ("auipc s11, 0x12345", &[0x1234_5D97]),
     ("jal ra, back", &[0xFF9F_F0EF]),
@@ -211,6 +214,7 @@ const FAULTS: [(&str, u32, u8); 78] = [
     ),
 ];
 
+/// Whether the file has the worked header, and this behind it.
 fn is_file(file: &[u8], end: &[u8]) -> bool {
     match file.strip_prefix(SMALL_HEADER.as_slice()) {
         Some(rest) => rest == end,
@@ -218,33 +222,28 @@ fn is_file(file: &[u8], end: &[u8]) -> bool {
     }
 }
 
-fn file_is(alloc: Global, text: &str, end: &[u8]) -> bool {
+fn is_file_of(alloc: Global, text: &str, end: &[u8]) -> bool {
     match assemble(alloc, text.as_bytes()) {
         Ok(file) => is_file(file.as_slice(), end),
         Err(_) => false,
     }
 }
 
-/// The line and the kind of the fault; zeros where there is none.
-fn fault_of(alloc: Global, text: &[u8]) -> (u32, u8) {
-    match assemble(alloc, text) {
-        Ok(_) => (0, 0),
-        Err(AsmError::Source { line, kind }) => (line, kind),
-        Err(AsmError::NoMemory) => (0, 99),
+fn are_files(rt: &impl Abort, alloc: Global, rows: &[(&str, &[u8])]) {
+    for (text, end) in rows {
+        assert!(rt; is_file_of(alloc, text, end), "{text}");
     }
 }
 
 #[test]
 fn worked_files(rt: HostRuntime) {
-    for (text, end) in FILES {
-        assert!(rt; file_is(rt.alloc(), text, end), "{text}");
-    }
+    are_files(&rt, rt.alloc(), &FILES);
 }
 
-/// The text of the table.
-fn text_of_statements(alloc: Global) -> Result<Bytes, NoMemory> {
+/// The text of the pieces, a line each.
+fn text_of(alloc: Global, statements: &[Statement]) -> Result<Bytes, NoMemory> {
     let mut text = Bytes::new(alloc);
-    for (piece, _) in STATEMENTS {
+    for (piece, _) in statements {
         text.push_slice(piece.as_bytes())?;
         text.push(b'\n')?;
     }
@@ -260,10 +259,10 @@ fn behind_words<'a>(bytes: &'a [u8], words: &[u32]) -> Option<&'a [u8]> {
     Some(rest)
 }
 
-/// The code is that of the table, word for word.
-fn is_code_of_statements(rt: &impl Abort, code: &[u8]) {
+/// The code is that of the pieces, word for word.
+fn is_code_of(rt: &impl Abort, code: &[u8], statements: &[Statement]) {
     let mut rest = code;
-    for (piece, words) in STATEMENTS {
+    for (piece, words) in statements {
         match behind_words(rest, words) {
             Some(behind) => rest = behind,
             None => assert!(rt; false, "{piece}"),
@@ -272,26 +271,39 @@ fn is_code_of_statements(rt: &impl Abort, code: &[u8]) {
     assert!(rt; rest.is_empty(), "words behind the last statement");
 }
 
-#[test]
-fn every_statement(rt: HostRuntime) -> Result<(), Fail> {
-    let text = text_of_statements(rt.alloc())?;
-    let file = assemble(rt.alloc(), text.as_slice())?;
+fn are_statements(rt: &impl Abort, alloc: Global, statements: &[Statement]) -> Result<(), Fail> {
+    let text = text_of(alloc, statements)?;
+    let file = assemble(alloc, text.as_slice())?;
     match file.as_slice().get(84..) {
-        Some(code) => is_code_of_statements(&rt, code),
+        Some(code) => is_code_of(rt, code, statements),
         None => assert!(rt; false, "no code"),
     }
     Ok(())
 }
 
 #[test]
-fn faults(rt: HostRuntime) {
-    for (text, line, kind) in FAULTS {
-        assert_eq!(rt;
-            fault_of(rt.alloc(), text.as_bytes()),
-            (line, kind),
-            "{text}"
-        );
+fn every_statement(rt: HostRuntime) -> Result<(), Fail> {
+    are_statements(&rt, rt.alloc(), &STATEMENTS)
+}
+
+/// The line and the kind of the fault; zeros where there is none.
+fn fault_of(alloc: Global, text: &[u8]) -> (u32, u8) {
+    match assemble(alloc, text) {
+        Ok(_) => (0, 0),
+        Err(AsmError::Source { line, kind }) => (line, kind),
+        Err(AsmError::NoMemory) => (0, 99),
     }
+}
+
+fn are_faults(rt: &impl Abort, alloc: Global, rows: &[(&str, u32, u8)]) {
+    for (text, line, kind) in rows {
+        assert_eq!(rt; fault_of(alloc, text.as_bytes()), (*line, *kind), "{text}");
+    }
+}
+
+#[test]
+fn faults(rt: HostRuntime) {
+    are_faults(&rt, rt.alloc(), &FAULTS);
 }
 
 #[test]

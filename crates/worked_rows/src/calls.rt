@@ -1,5 +1,6 @@
 // The table of calls, and the numbers that say how much there may be.
 use call_table::{Need, RIGHT_READ, RIGHT_WRITE, call, is_local, is_signal, need_of};
+use std::process::Abort;
 
 /// Arguments that tell themselves apart.
 const FEW: [u32; 6] = [0x1000, 10, 20, 30, 40, 50];
@@ -33,11 +34,19 @@ fn parts_of(need: Option<Need>) -> Option<(u32, u32, u8)> {
     }
 }
 
+fn are_buffers(rt: &impl Abort, rows: &[(u32, [u32; 6], Option<(u32, u32, u8)>)]) {
+    for (number, args, want) in rows {
+        assert_eq!(rt;
+            parts_of(need_of(*number, args, SP)),
+            *want,
+            "call {number}"
+        );
+    }
+}
+
 #[test]
 fn buffers(rt: HostRuntime) {
-    for (number, args, want) in BUFFERS {
-        assert_eq!(rt; parts_of(need_of(number, &args, SP)), want, "call {number}");
-    }
+    are_buffers(&rt, &BUFFERS);
 }
 
 /// Which numbers are answered where the process runs, and which are signals.

@@ -2,11 +2,15 @@
 use call_table::{End, NoMemory};
 use node_event::{Event, Journal, Kept, Refusal, Unsent, Way, What, print_event, read_event};
 use std::alloc::Global;
+use std::process::Abort;
 use std::test::Fail;
 
-/// A line, and the stamp, the node and the rest of its event: those of a run of one program that writes three bytes
+/// A line, and the stamp, the node and the rest of its event.
+type Line = (&'static str, u64, u8, What);
+
+/// Lines of events: those of a run of one program that writes three bytes
 /// and exits, then one of each other event, and one with each field at the end of its range.
-const LINES: [(&str, u64, u8, What); 29] = [
+const LINES: [Line; 29] = [
     (
         "1 0 command 1 1 - -",
         1,
@@ -247,13 +251,22 @@ fn is_printed(alloc: Global, event: &Event, line: &str) -> Result<bool, NoMemory
     Ok(print_event(alloc, event)?.as_slice() == line.as_bytes())
 }
 
+fn are_lines(rt: &impl Abort, alloc: Global, rows: &[Line]) -> Result<(), NoMemory> {
+    for (line, stamp, node, what) in rows {
+        let event = Event {
+            stamp: *stamp,
+            node: *node,
+            what: *what,
+        };
+        assert!(rt; is_printed(alloc, &event, line)?, "{line}");
+        assert!(rt; read_event(line.as_bytes()) == Some(event), "{line}");
+    }
+    Ok(())
+}
+
 #[test]
 fn lines(rt: HostRuntime) -> Result<(), Fail> {
-    for (line, stamp, node, what) in LINES {
-        let event = Event { stamp, node, what };
-        assert!(rt; is_printed(rt.alloc(), &event, line)?, "{line}");
-        assert_eq!(rt; read_event(line.as_bytes()), Some(event), "{line}");
-    }
+    are_lines(&rt, rt.alloc(), &LINES)?;
     Ok(())
 }
 
@@ -290,11 +303,15 @@ const OTHER_LINES: [&str; 29] = [
     "1 0 refused 1 2 gone 3",
 ];
 
-#[test]
-fn other_lines(rt: HostRuntime) {
-    for line in OTHER_LINES {
+fn are_other_lines(rt: &impl Abort, lines: &[&str]) {
+    for line in lines {
         assert!(rt; read_event(line.as_bytes()).is_none(), "{line}");
     }
+}
+
+#[test]
+fn other_lines(rt: HostRuntime) {
+    are_other_lines(&rt, &OTHER_LINES);
 }
 
 /// A journal for two events.

@@ -4,6 +4,7 @@ use rv_decode::{
     BranchOffset, FenceBits, Immediate, JumpOffset, Register, Shift, Upper, decode, encode,
 };
 use std::alloc::Global;
+use std::process::Abort;
 
 /// A text, the place of a word in its code, counted in words, and that word.
 const WORDS: [(&str, u16, u32); 42] = [
@@ -75,12 +76,16 @@ fn is_read_back(word: u32) -> bool {
     }
 }
 
+fn are_words(rt: &impl Abort, alloc: Global, rows: &[(&str, u16, u32)]) {
+    for (text, place, word) in rows {
+        let is_word = is_word_of(alloc, text, *place, *word) && is_read_back(*word);
+        assert!(rt; is_word, "{text}");
+    }
+}
+
 #[test]
 fn words(rt: HostRuntime) {
-    for (text, place, word) in WORDS {
-        assert!(rt; is_word_of(rt.alloc(), text, place, word), "{text}");
-        assert!(rt; is_read_back(word), "{text}");
-    }
+    are_words(&rt, rt.alloc(), &WORDS);
 }
 
 /// Words of no row: zeros, ones, a product, shifts and sums with a reserved funct7, reserved values of funct3 in
@@ -102,11 +107,15 @@ const NO_WORDS: [u32; 14] = [
     0x3000_1073,
 ];
 
+fn are_no_words(rt: &impl Abort, words: &[u32]) {
+    for word in words {
+        assert!(rt; decode(*word).is_none(), "{word}");
+    }
+}
+
 #[test]
 fn no_instruction(rt: HostRuntime) {
-    for word in NO_WORDS {
-        assert!(rt; decode(word).is_none(), "{word}");
-    }
+    are_no_words(&rt, &NO_WORDS);
 }
 
 /// An operand of an instruction.
@@ -165,9 +174,13 @@ fn holds(operand: Operand, value: i32) -> bool {
     }
 }
 
+fn are_ranges(rt: &impl Abort, rows: &[(Operand, i32, bool)]) {
+    for (operand, value, is_held) in rows {
+        assert_eq!(rt; holds(*operand, *value), *is_held, "{value}");
+    }
+}
+
 #[test]
 fn ranges(rt: HostRuntime) {
-    for (operand, value, is_held) in RANGES {
-        assert_eq!(rt; holds(operand, value), is_held, "{value}");
-    }
+    are_ranges(&rt, &RANGES);
 }
