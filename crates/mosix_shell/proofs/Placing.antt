@@ -10,7 +10,13 @@ use Rattle.node_event.specs.declared.script.ScriptLine.{ScriptLine}
 use Rattle.user_spec.specs.User.{UserState}
 use Rattle.one_node.specs.Machine.{MachineState, live_user, ended_of, start}
 use Rattle.kernel_spec.specs.Kernel.{KernelState, given, is_live, end_at}
-use Rattle.kernel_spec.specs.Processes.{at_pid, end_of, is_live_end}
+use Rattle.kernel_spec.specs.Pids.{at_pid}
+use Rattle.proc_tree.specs.Processes as process
+use Rattle.proc_tree.specs.Tree as tree
+use Rattle.proc_tree.specs.declared.process.Process.{Process}
+use Rattle.proc_tree.specs.declared.process.State.{State}
+use Rattle.proc_tree.specs.declared.process.State.TheVariants.{Live, Zombie, Gone}
+use Rattle.std.specs.Option.{option_map_or, option_and_then}
 use Rattle.mosix_shell.specs.History.{machine_of}
 use Rattle.mosix_shell.specs.declared.phase.Phase.{Phase}
 use Rattle.mosix_shell.specs.declared.phase.Phase.TheVariants.{Goes, Waits, IsServed}
@@ -30,25 +36,29 @@ pub record IsHome (es : List Event) (now : Moment) : Type 0 where
 
 -- ---- what that says of every process
 
-past_one : (ends : List (Option End)) (i : ℕ) → length ends ≡ 1 → slice_get ends (suc i) ≡ None
+past_one : (tree : List Process) (i : ℕ) → length tree ≡ 1 → slice_get tree (suc i) ≡ None
 past_one [] i one = absurd (omega (arith, one))
-past_one (e ∷ []) i one = refl
-past_one (e ∷ f ∷ es) i one = absurd (omega (arith, one))
+past_one (p ∷ []) i one = refl
+past_one (p ∷ q ∷ ps) i one = absurd (omega (arith, one))
 
 pub past_live : (k : KernelState) (i : ℕ) → given k ≡ 1 → is_live k (suc (suc i)) ≡ false
-past_live k i one = ap is_live_end (past_one k.ends i one)
+past_live k i one = ap (λ o. option_map_or process.is_live o false) (past_one k.processes.tree i one)
 
 past_end : (k : KernelState) (i : ℕ) → given k ≡ 1 → end_at k (suc (suc i)) ≡ None
-past_end k i one = ap end_of (past_one k.ends i one)
+past_end k i one = ap (option_and_then process.end_of) (past_one k.processes.tree i one)
 
-live_no_end : (e : Option (Option End)) → is_live_end e ≡ true → is_some (end_of e) ≡ false
+live_state : (s : State) → process.is_live_state s ≡ true → is_some (process.end_of_state s) ≡ false
+live_state Live h = refl
+live_state (Zombie e) h = cc
+live_state (Gone e) h = cc
+
+live_no_end : (o : Option Process) → option_map_or process.is_live o false ≡ true → is_some (option_and_then process.end_of o) ≡ false
 live_no_end None h = refl
-live_no_end (Some None) h = refl
-live_no_end (Some (Some e)) h = cc
+live_no_end (Some p) h = live_state p.state h
 
 -- a live process has no end
 still_live : (k : KernelState) (p : ℕ) → is_live k p ≡ true → is_some (end_at k p) ≡ false
-still_live k p h = live_no_end (at_pid k.ends p) h
+still_live k p h = live_no_end (tree.at_pid k.processes.tree p) h
 
 not_gone : (phase : Phase) (m : MachineState) → is_live m.kernel 1 ≡ true → is_gone phase m ≡ false
 not_gone Goes m h = still_live m.kernel 1 h
@@ -72,17 +82,21 @@ ended_placed es now one home zero e h = some_end None e refl h
 ended_placed es now one home (suc zero) e h = at_most_one (is_gone now.phase now.machine) (places 1 es) home.first
 ended_placed es now one home (suc (suc i)) e h = some_end (end_at now.machine.kernel (suc (suc i))) e (past_end now.machine.kernel i one) h
 
-there : {A : Type 0} (ends : List (Option End)) → length ends ≡ 1 → is_live_end (slice_get ends 0) ≡ false → end_of (slice_get ends 0) ≡ None → A
+there_state : {A : Type 0} (s : State) → process.is_live_state s ≡ false → process.end_of_state s ≡ None → A
+there_state Live live none = false_true (sym live)
+there_state (Zombie e) live none = some_end None e refl (sym none)
+there_state (Gone e) live none = some_end None e refl (sym none)
+
+there : {A : Type 0} (ps : List Process) → length ps ≡ 1 → option_map_or process.is_live (slice_get ps 0) false ≡ false → option_and_then process.end_of (slice_get ps 0) ≡ None → A
 there [] one live none = absurd (omega (arith, one))
-there (None ∷ es) one live none = false_true (sym live)
-there (Some e ∷ es) one live none = some_end None e refl (sym none)
+there (p ∷ ps) one live none = there_state p.state live none
 
 not_one : (i : ℕ) → suc (suc i) ≢ 1
 not_one i h = absurd (omega (arith, h))
 
 never_placed : (es : List Event) (now : Moment) → given now.machine.kernel ≡ 1 → IsHome es now → (p : ℕ) → is_live now.machine.kernel p ≡ false → end_at now.machine.kernel p ≡ None → places p es ≡ []
 never_placed es now one home zero live none = home.others 0 (λ e. absurd (omega (arith, e)))
-never_placed es now one home (suc zero) live none = there now.machine.kernel.ends one live none
+never_placed es now one home (suc zero) live none = there now.machine.kernel.processes.tree one live none
 never_placed es now one home (suc (suc i)) live none = home.others (suc (suc i)) (not_one i)
 
 are_placed : (es : List Event) (now : Moment) → given now.machine.kernel ≡ 1 → IsHome es now → ArePlaced es now.machine

@@ -10,7 +10,7 @@ use Rattle.user_spec.specs.User.{UserState}
 use Rattle.user_spec.specs.Advance.{Walk, quantum_of, request_of, asked_number}
 use Rattle.one_node.specs.Machine.{MachineState, live_user, ended_of, with_user, HaveEnded, value_gained}
 use Rattle.kernel_spec.specs.Kernel.{given, is_live}
-use Rattle.kernel_spec.specs.Processes.{at_pid}
+use Rattle.kernel_spec.specs.Pids.{at_pid}
 use Rattle.kernel_spec.proofs.PidLemmas.{length-set_pid}
 use Rattle.mosix_shell.specs.OnceLaw.{number_asked, way_for}
 use Rattle.mosix_shell.specs.declared.phase.Phase.{Phase}

@@ -12,7 +12,7 @@ use Rattle.node_event.specs.declared.script.ScriptLine.{ScriptLine}
 use Rattle.user_spec.specs.User.{UserState}
 use Rattle.user_spec.specs.Advance.{advanced, Walk}
 use Rattle.kernel_spec.specs.Kernel.{is_live}
-use Rattle.kernel_spec.specs.Processes.{at_pid, set_pid}
+use Rattle.kernel_spec.specs.Pids.{at_pid, set_pid}
 use Rattle.one_node.specs.Machine.{MachineState, live_user, ended_of, with_user, played, machine_step, and_then, steps_of}
 use Rattle.mosix_shell.specs.Schedule.{event_steps, served_step}
 use Rattle.mosix_shell.specs.History.{machine_of, AreStamped}

@@ -12,7 +12,7 @@ use Rattle.call_table.specs.declared.process.Reply3.{Reply3}
 use Rattle.user_spec.specs.User.{UserState}
 use Rattle.user_spec.specs.Advance.{Walk, quantum_of, request_of, asked_number}
 use Rattle.kernel_spec.specs.Kernel.{is_live}
-use Rattle.kernel_spec.specs.Processes.{at_pid, set_pid}
+use Rattle.kernel_spec.specs.Pids.{at_pid, set_pid}
 use Rattle.one_node.specs.Machine.{MachineState, live_user, ended_of, with_user}
 use Rattle.one_node.specs.Going.{gone, gone_on, gone_in, GoneIn, asks_of, replied_in, fell_in}
 use Rattle.one_node.proofs.Quanta.{asks_there}

@@ -1,4 +1,5 @@
 pub mod Quanta
+pub mod Built
 pub mod Lives
 pub mod Applies
 pub mod Plays

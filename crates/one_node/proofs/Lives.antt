@@ -14,12 +14,13 @@ use Rattle.user_spec.specs.Advance.{Went, Done, AtCall, Faults, advance, request
 use Rattle.user_spec.specs.declared.outcome.Stop.{Stop}
 use Rattle.user_spec.specs.declared.outcome.Stop.TheVariants as stops
 use Rattle.kernel_spec.specs.Kernel.{KernelState, with_process, with_end, given, is_live}
-use Rattle.kernel_spec.specs.Calls.{call_result}
-use Rattle.kernel_spec.specs.Processes.{at_pid, set_pid, is_live_end}
+use Rattle.signal_set.specs.Signals.{no_signals}
+use Rattle.kernel_spec.specs.Pids.{at_pid, set_pid}
+use Rattle.kernel_spec.proofs.GivenLemmas.{given_joined}
 use Rattle.kernel_spec.proofs.PidLemmas.{set_pid-at, at_pid-at}
 use Rattle.user_ctx.proofs.Calls.{grows_done}
 use Rattle.home_kernel.specs.Serving.{IsLive, Launches}
-use Rattle.one_node.specs.Machine.{MachineState, live_user, Served, served, served_at, answered, with_fall, fault_of, signal_in, launched, next_pid}
+use Rattle.one_node.specs.Machine.{MachineState, Answered, built_result, live_user, Served, served, served_at, answered, with_fall, fault_of, signal_in, launched, next_pid}
 use Rattle.one_node.specs.Going.{gone_on, gone_in, gone, GoneIn, gone_at, GoneAt, Replied, replied, replied_by, RepliedAt, replied_at, RepliedIn, replied_in, replied_on, replied_as, FellIn, fell_in, fell_on, fell_as, Faulted, faulted, FaultedAt, faulted_at}
 use Rattle.one_node.specs.declared.going.Ran.{Ran}
 
@@ -28,7 +29,7 @@ same_some x y h = cc
 
 -- a live process is the one at its index
 live_at : (m : MachineState) (pid : ℕ) → 1 ≤ pid → IsLive m.kernel pid → live_user m pid ≡ slice_get m.users (pid - 1)
-live_at m pid low live = ap (λ e. cond (is_live_end e) (at_pid m.users pid) None) live ∙ at_pid-at m.users pid low
+live_at m pid low live = ap (λ b. cond b (at_pid m.users pid) None) live ∙ at_pid-at m.users pid low
 
 -- a process that is not live has no context
 pub dead : (m : MachineState) (pid : ℕ) → is_live m.kernel pid ≡ false → live_user m pid ≡ None
@@ -45,14 +46,18 @@ asked_there : (u v : UserState) (r : Request) → advance u ≡ AtCall → v ≡
 asked_there u v r at same asked =
     let e : Some (call_request u) ≡ Some r = sym (ap (λ w. asked_at w u) at) ∙ ap request_of (sym same) ∙ asked in cc
 
+answered_by : (pid : ℕ) (u : UserState) (o : Option Answered) (after : KernelState) (a : Answer) → o ≡ Some (record { kernel = after; answer = a })
+    → answered pid u o ≡ Some (record { kernel = after; user = returned u a; reply = record { pid = pid; number = (call_request u).number; value = a.value } })
+answered_by pid u o after a h = ap (answered pid u) h
+
 serves : (k after : KernelState) (pid : ℕ) (u v w : UserState) (r : Request) (a : Answer) → advance u ≡ AtCall → v ≡ u → request_of v ≡ Some r
-    → call_result k pid r ≡ Some (record { kernel = after; answer = a }) → w ≡ returned v a
+    → built_result k pid r ≡ Some (record { kernel = after; answer = a }) → w ≡ returned v a
     → served k pid u ≡ Some (record { kernel = after; user = w; reply = record { pid = pid; number = r.number; value = a.value } })
 serves k after pid u v w r a at same asked called is =
     let there = asked_there u v r at same asked in
     ap (served_at k pid u) at
-    ∙ ap (λ x. answered pid u (call_result k pid x)) there
-    ∙ ap (answered pid u) called
+    ∙ ap (λ x. answered pid u (built_result k pid x)) there
+    ∙ answered_by pid u (built_result k pid r) after a called
     ∙ ap (λ x. Some (record { kernel = after; user = returned u a; reply = record { pid = pid; number = x.number; value = a.value } })) there
     ∙ ap (λ x. Some (record { kernel = after; user = x; reply = record { pid = pid; number = r.number; value = a.value } })) (ap (λ x. returned x a) (sym same) ∙ sym is)
 
@@ -89,7 +94,7 @@ stays_at_call : (u v : UserState) → stepped u ≡ record { stop = stops.AtCall
 stays_at_call u v h = sym (user_of u v stops.AtCall h) ∙ stay_if (grows u) u (stop_of u v stops.AtCall h)
 
 pub replies : (k after : KernelState) (pid : ℕ) (u v w : UserState) (r : Request) (a : Answer) → stepped u ≡ record { stop = stops.AtCall; user = v } → request_of v ≡ Some r
-    → call_result k pid r ≡ Some (record { kernel = after; answer = a }) → w ≡ returned v a
+    → built_result k pid r ≡ Some (record { kernel = after; answer = a }) → w ≡ returned v a
     → replied k pid u ≡ record { reply = Some (record { pid = pid; number = r.number; value = a.value }); kernel = after; user = w }
 replies k after pid u v w r a at asked called is =
     ap (λ s. replied_by s k u) (serves k after pid u v w r a (stops_at_call u v at) (stays_at_call u v at) asked called is)
@@ -98,11 +103,11 @@ no_reply : (k : KernelState) (pid : ℕ) (u v : UserState) (s : Stop) → steppe
 no_reply k pid u v s h none = ap (λ o. replied_by o k u) none ∙ ap (λ x. let q : Replied = record { reply = None; kernel = k; user = x } in q) (user_of u v s h)
 
 -- a call that blocks, or is not built
-pub replies_none : (k after : KernelState) (pid : ℕ) (u v : UserState) (r : Request) → stepped u ≡ record { stop = stops.AtCall; user = v } → request_of v ≡ Some r → call_result k pid r ≡ None → after ≡ k
+pub replies_none : (k after : KernelState) (pid : ℕ) (u v : UserState) (r : Request) → stepped u ≡ record { stop = stops.AtCall; user = v } → request_of v ≡ Some r → built_result k pid r ≡ None → after ≡ k
     → replied k pid u ≡ record { reply = None; kernel = after; user = v }
 replies_none k after pid u v r at asked called same =
     no_reply k pid u v stops.AtCall at
-    (ap (served_at k pid u) (stops_at_call u v at) ∙ ap (λ x. answered pid u (call_result k pid x)) (asked_there u v r (stops_at_call u v at) (stays_at_call u v at) asked) ∙ ap (answered pid u) called)
+    (ap (served_at k pid u) (stops_at_call u v at) ∙ ap (λ x. answered pid u (built_result k pid x)) (asked_there u v r (stops_at_call u v at) (stays_at_call u v at) asked) ∙ ap (answered pid u) called)
     ∙ ap (λ x. let q : Replied = record { reply = None; kernel = x; user = v } in q) (sym same)
 
 pub went_no_call : stops.Went ≢ stops.AtCall
@@ -297,16 +302,12 @@ falls_not m pid h = ap (fell_on m pid) (dead m pid h)
 
 -- ---- a launch
 
-length_more : (es : List (Option End)) → length (es ++ None ∷ []) ≡ length es + 1
-length_more [] = refl
-length_more (e ∷ es) = let e' : suc (length es + 1) ≡ suc (length es) + 1 = omega arith in ap suc (length_more es) ∙ e'
-
 -- one process more
 pub launches_in : (k after : KernelState) (users : List UserState) (replies : List Reply3) (m : MachineState) (u : UserState) (pid : ℕ) (setup : Option UserState) → state_of k users replies ≡ m → setup ≡ Some u
     → Launches (Some pid) k after → launched setup m ≡ Some (state_of after (users ++ record u { pid = pid } ∷ []) replies)
 launches_in k after users replies m u pid setup is here l =
     let x = state_of k users replies in
-    let many : given k + 1 ≡ pid = sym (l.2 ∙ ap given l.1 ∙ length_more k.ends) in
+    let many : given k + 1 ≡ pid = sym (l.2 ∙ ap given l.1 ∙ given_joined k.processes 0 no_signals) in
     ap (launched setup) (sym is)
     ∙ ap (λ o. launched o x) here
     ∙ ap (λ b. cond b (Some (state_of (with_process k) (users ++ record u { pid = next_pid x } ∷ []) replies)) None) l.0

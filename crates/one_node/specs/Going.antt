@@ -1,11 +1,12 @@
 -- What the calls on the system leave: what is answered, beside the state after it.
-use Rattle.std.specs.Prelude.{ℕ, ◌==◌, if◌then◌else◌, List, Option, Some, None, Bool, true, false, slice_set, unwrap_or}
+use Rattle.std.specs.Prelude.{◌≡◌, ℕ, ◌==◌, if◌then◌else◌, List, Option, Some, None, Bool, true, false, slice_set, unwrap_or}
 use Rattle.std.specs.Option.{option_map}
 use Rattle.call_table.specs.declared.process.Reply3.{Reply3}
+use Rattle.call_table.specs.declared.request.Answer.{Answer}
 use Rattle.user_spec.specs.User.{UserState}
 use Rattle.user_spec.specs.Advance.{Walk, quantum_of, request_of, asked_number, stepped}
 use Rattle.kernel_spec.specs.Kernel.{KernelState}
-use Rattle.one_node.specs.Machine.{MachineState, Served, live_user, with_user, served, with_served, fault_of, with_fall}
+use Rattle.one_node.specs.Machine.{MachineState, Answered, Served, live_user, with_user, served, with_served, fault_of, with_fall}
 use Rattle.one_node.specs.declared.going.Ran.{Ran}
 use Rattle.one_node.specs.declared.going.Ran.TheVariants.{Steps, Asks}
 
@@ -47,6 +48,12 @@ gone_on m pid (Some g) = record { ran = Some g.ran; machine = with_user m pid g.
 
 abbrev pub gone_in : ℕ → MachineState → ℕ → GoneIn
 gone_in quantum m pid = gone_on m pid (option_map (gone quantum) (live_user m pid))
+
+-- ---- a call of the kernel: its answer, and the kernel after it; none, and nothing changes
+
+abbrev pub AnswersBy : Option Answer → Option Answered → KernelState → KernelState → Type 0
+AnswersBy None answered old new = (answered ≡ None) × (new ≡ old)
+AnswersBy (Some answer) answered old new = answered ≡ Some (record { kernel = new; answer = answer })
 
 -- ---- a served call. A process that is at none makes its next step, where there is one
 

@@ -1,7 +1,11 @@
 -- The one-node machine: the system without nodes, letters or migration.
 use Rattle.std.specs.Prelude.{ℕ, zero, suc, ◌+◌, List, [], ◌∷◌, ◌++◌, Option, Some, None, ◌==◌, if◌then◌else◌, slice_get, length, ℤ, refl, ◌≡◌, Bool, true, false}
 use Rattle.std.specs.Option.{option_map, option_and_then}
+use Rattle.std.specs.List.{list_any}
 use Rattle.std.specs.Coded.{Coded, code_by, coded×, coded_list}
+use Rattle.call_table.specs.declared.call.TheConstants.{EXIT, OPEN, CLOSE, READ, WRITE, LSEEK, DUP, UNLINK, YIELD}
+use Rattle.call_table.specs.declared.request.Request.{Request}
+use Rattle.call_table.specs.declared.request.Answer.{Answer}
 use Rattle.call_table.specs.declared.process.End.{End}
 use Rattle.call_table.specs.declared.process.End.TheVariants as ends
 use Rattle.call_table.specs.declared.process.PidState.{PidState}
@@ -12,7 +16,7 @@ use Rattle.user_spec.specs.User.{UserState, coded_user}
 use Rattle.user_spec.specs.Request.{call_request, returned}
 use Rattle.user_spec.specs.Advance.{Went, Done, AtCall, Faults, advance, advanced}
 use Rattle.kernel_spec.specs.Kernel.{KernelState, Called, no_process, with_process, with_end, given, end_at, is_live, has_room, coded_kernel}
-use Rattle.kernel_spec.specs.Processes.{at_pid, set_pid}
+use Rattle.kernel_spec.specs.Pids.{at_pid, set_pid}
 use Rattle.kernel_spec.specs.Calls.{call_result}
 use Rattle.one_node.specs.declared.step.Step.{Step}
 use Rattle.one_node.specs.declared.step.Step.TheVariants.{Launch, Steps, Do, Break, Take, Fall}
@@ -59,13 +63,32 @@ steps_of m pid k user = if k == 0 then None else option_map (with_user m pid) (o
 
 -- ---- a served call
 
+-- the calls that this machine serves: exit, open, close, read, write, lseek, dup, unlink, yield
+abbrev pub built_calls : List ℕ
+built_calls = EXIT ∷ OPEN ∷ CLOSE ∷ READ ∷ WRITE ∷ LSEEK ∷ DUP ∷ UNLINK ∷ YIELD ∷ []
+
+abbrev pub is_built : ℕ → Bool
+is_built number = list_any (λ n. n == number) built_calls
+
+-- the kernel after a call, and its answer
+pub record Answered : Type 0 where
+  pub kernel : KernelState
+  pub answer : Answer
+
+abbrev pub answered_of : Called → Answered
+answered_of called = record { kernel = called.kernel; answer = called.answer }
+
+-- a call that is built, none where it blocks or is not built
+abbrev pub built_result : KernelState → ℕ → Request → Option Answered
+built_result k pid asked = if is_built asked.number then option_map answered_of (call_result k pid asked) else None
+
 -- what a call leaves
 pub record Served : Type 0 where
   pub kernel : KernelState
   pub user : UserState
   pub reply : Reply3
 
-abbrev pub answered : ℕ → UserState → Option Called → Option Served
+abbrev pub answered : ℕ → UserState → Option Answered → Option Served
 answered pid u None = None
 answered pid u (Some called) = Some (record {
   kernel = called.kernel;
@@ -74,7 +97,7 @@ answered pid u (Some called) = Some (record {
 })
 
 abbrev pub served_at : KernelState → ℕ → UserState → Went → Option Served
-served_at k pid u AtCall = answered pid u (call_result k pid (call_request u))
+served_at k pid u AtCall = answered pid u (built_result k pid (call_request u))
 served_at k pid u (Done v) = None
 served_at k pid u (Faults signal) = None
 

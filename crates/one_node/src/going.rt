@@ -1,14 +1,15 @@
 // Calls on the parts that make up the system.
-ghost use Rattle.std.specs.Prelude.{Some, IsSome, ◌≡◌, ◌<◌, ◌≤◌, IfOk, slice_get, slice_set, vec_len};
+ghost use Rattle.std.specs.Prelude.{Some, None, IsSome, IfSome, false, ◌-◌, ◌≡◌, ◌<◌, ◌≤◌, true, IfOk, slice_get, slice_set, vec_len};
 ghost use Rattle.std.specs.Option.{option_map, option_and_then};
 ghost use Rattle.user_spec.specs.Advance.{advanced, request_of, asked_number};
-ghost use Rattle.kernel_spec.specs.Kernel.{given};
+ghost use Rattle.kernel_spec.specs.Kernel.{given, is_live, with_end};
 ghost use Rattle.kernel_spec.specs.Calls.{call_result};
-ghost use Rattle.home_kernel.specs.Serving.{Calls, IsLive};
-ghost use Rattle.one_node.specs.Machine.{Moves};
-ghost use Rattle.one_node.specs.Going.{gone, gone_at, replied, replied_at, faulted, faulted_at};
+ghost use Rattle.home_kernel.specs.Serving.{IsLive};
+ghost use Rattle.one_node.specs.Machine.{Moves, is_built, answered_of, built_result};
+ghost use Rattle.one_node.specs.Going.{AnswersBy, gone, gone_at, replied, replied_at, faulted, faulted_at};
 
-use call_table::{Answer, NoMemory, Reply3, Request};
+use call_table::call::{CLOSE, DUP, EXIT, LSEEK, OPEN, READ, UNLINK, WRITE, YIELD};
+use call_table::{Answer, End, NoMemory, Reply3, Request};
 use home_kernel::{Kernel, Served};
 use std::alloc::Global;
 use user_ctx::{Stop, User};
@@ -96,6 +97,33 @@ pub fn steps_at(users: &mut Vec<User>, i: usize, k: u32) -> Result<bool, NoMemor
     Ok(went)
 }
 
+/// The numbers of the calls that are built.
+const BUILT: [u32; 9] = [EXIT, OPEN, CLOSE, READ, WRITE, LSEEK, DUP, UNLINK, YIELD];
+
+/// Whether a call is built.
+pub fn is_built(number: u32) -> bool
+    ensures { result ≡ is_built number }
+{
+    BUILT.iter().any(|built| *built == number)
+}
+
+/// The answer of a call, None where it blocks. Then, and at want of memory, nothing changes.
+fn call(
+    alloc: Global,
+    kernel: &mut Kernel,
+    pid: u32,
+    request: &Request,
+) -> Result<Option<Answer>, NoMemory>
+    requires { IsLive kernel.old pid }
+    ensures ok { IfOk result (λ answer. AnswersBy answer (option_map answered_of (call_result kernel.old pid request.now)) kernel.old kernel.new) }
+    ensures given { is_built request.now.number ≡ true → given kernel.new ≡ given kernel.old }
+{
+    match kernel.serve(alloc, pid, request)? {
+        Served::Done { answer, .. } => Ok(Some(answer)),
+        Served::Blocks => Ok(None),
+    }
+}
+
 /// The answer of a call, None where it blocks or is not built. Then, and at want of memory, nothing changes.
 fn answer_of(
     alloc: Global,
@@ -104,14 +132,14 @@ fn answer_of(
     request: &Request,
 ) -> Result<Option<Answer>, NoMemory>
     requires { IsLive kernel.old pid }
-    ensures ok { IfOk result (λ answer. Calls answer (call_result kernel.old pid request.now) kernel.old kernel.new) }
+    ensures ok { IfOk result (λ answer. AnswersBy answer (built_result kernel.old pid request.now) kernel.old kernel.new) }
     ensures given { given kernel.new ≡ given kernel.old }
 {
-    match kernel.serve(alloc, pid, request)? {
-        Served::Done { answer, .. } => Ok(Some(answer)),
-        Served::Blocks => Ok(None),
-        Served::NotBuilt => Ok(None),
+    if !is_built(request.number) {
+        return Ok(None);
     }
+    let answer = call(alloc, kernel, pid, request)?;
+    Ok(answer)
 }
 
 /// What is kept of a served call.
@@ -192,4 +220,27 @@ pub fn fault_at(users: &mut Vec<User>, i: usize) -> Option<u8>
     let user = &mut users[i];
     let signal = fault(user);
     signal
+}
+
+/// Ends a live process by the signal of its fault.
+pub fn end_by(kernel: &mut Kernel, pid: u32, signal: u8)
+    requires { IsLive kernel.old pid }
+    ensures is { kernel.new ≡ with_end kernel.old pid (End.Signal signal) }
+    ensures given { given kernel.new ≡ given kernel.old }
+{
+    let _raised = kernel.fall(pid, signal);
+}
+
+/// The index of a live process. None exactly where it is not live.
+pub fn index_of(kernel: &Kernel, pid: u32) -> Option<usize>
+    ensures some { IfSome result (λ i. IsLive kernel.now pid × (1 ≤ pid) × (i ≡ pid - 1) × (pid ≤ given kernel.now)) }
+    ensures none { result ≡ None → is_live kernel.now pid ≡ false }
+{
+    if pid == 0 {
+        return None;
+    }
+    if !kernel.live(pid) {
+        return None;
+    }
+    Some(pid as usize - 1)
 }

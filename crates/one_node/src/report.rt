@@ -22,7 +22,7 @@ pub fn statuses(alloc: Global, kernel: &Kernel) -> Result<Statuses, NoMemory>
     ensures { IfOk result (λ statuses. statuses ≡ statuses_from kernel.now 1 (given kernel.now)) }
 {
     let mut statuses = Statuses::new(alloc);
-    let given = kernel.ends().len() as u32;
+    let given = kernel.given();
     for i in 0..given {
         let pid = i + 1;
         statuses.push((pid, state_of(kernel.ended(pid))))?;
