@@ -137,3 +137,8 @@ within (p ∷ ps) (suc i) h = let lt = within ps i h in omega arith
 pub live_within : (k : KernelState) (pid : ℕ) → is_live k pid ≡ true → pid ≤ given k
 live_within k zero h = omega arith
 live_within k (suc i) h = let lt = within k.processes.tree i h in omega arith
+
+-- pid 0 is none
+pub live_low : (k : KernelState) (pid : ℕ) → is_live k pid ≡ true → 1 ≤ pid
+live_low k zero h = absurd (let f : false ≡ true = h in cc)
+live_low k (suc i) h = omega arith

@@ -1,5 +1,5 @@
 // Calls on the parts that make up the system.
-ghost use Rattle.std.specs.Prelude.{Some, None, IsSome, IfSome, false, ◌-◌, ◌≡◌, ◌<◌, ◌≤◌, true, IfOk, slice_get, slice_set, vec_len};
+ghost use Rattle.std.specs.Prelude.{Some, IsSome, IsTrue, ◌≡◌, ◌<◌, ◌≤◌, true, IfOk, slice_get, slice_set, vec_len};
 ghost use Rattle.std.specs.Option.{option_map, option_and_then};
 ghost use Rattle.user_spec.specs.Advance.{advanced, request_of, asked_number};
 ghost use Rattle.kernel_spec.specs.Kernel.{given, is_live, with_end};
@@ -231,16 +231,11 @@ pub fn end_by(kernel: &mut Kernel, pid: u32, signal: u8)
     let _raised = kernel.fall(pid, signal);
 }
 
-/// The index of a live process. None exactly where it is not live.
-pub fn index_of(kernel: &Kernel, pid: u32) -> Option<usize>
-    ensures some { IfSome result (λ i. IsLive kernel.now pid × (1 ≤ pid) × (i ≡ pid - 1) × (pid ≤ given kernel.now)) }
-    ensures none { result ≡ None → is_live kernel.now pid ≡ false }
+/// Whether a process was given and has not ended.
+pub fn live(kernel: &Kernel, pid: u32) -> bool
+    ensures is { result ≡ is_live kernel.now pid }
+    ensures bounds { IsTrue result → (1 ≤ pid) × (pid ≤ given kernel.now) }
+    ensures live { IsTrue result → IsLive kernel.now pid }
 {
-    if pid == 0 {
-        return None;
-    }
-    if !kernel.live(pid) {
-        return None;
-    }
-    Some(pid as usize - 1)
+    kernel.live(pid)
 }

@@ -7,7 +7,7 @@ ghost use Rattle.one_node.specs.Machine.{MachineState, start, launched, steps_of
 ghost use Rattle.one_node.specs.Going.{gone_in, replied_in, fell_in};
 ghost use Rattle.one_node.specs.Applying.{AppliedAs};
 
-use crate::going::{Ran, end_by, fault_at, go_at, index_of, serve_at, steps_at};
+use crate::going::{Ran, end_by, fault_at, go_at, live, serve_at, steps_at};
 use crate::report::statuses;
 use crate::step::Step;
 use call_table::{Bytes, End, ListOf, NamedFiles, NoMemory, Replies, Reply3, Statuses};
@@ -127,16 +127,11 @@ impl Home {
         ensures ok { IfOk result (λ went. Moves went (steps_of self.old pid k (live_user self.old pid)) self.new) }
         ensures replies { self.new.replies ≡ self.old.replies }
     {
-        if k == 0 {
+        if k == 0 || !live(&self.kernel, pid) {
             return Ok(false);
         }
-        match index_of(&self.kernel, pid) {
-            None => Ok(false),
-            Some(i) => {
-                let went = steps_at(&mut self.users, i, k)?;
-                Ok(went)
-            }
-        }
+        let went = steps_at(&mut self.users, pid as usize - 1, k)?;
+        Ok(went)
     }
 
     /// At most a quantum of steps of a process, or what it asks. None exactly where it is not live.
@@ -144,13 +139,11 @@ impl Home {
         requires { 1 ≤ quantum }
         ensures { IfOk result (λ ran. gone_in quantum self.old pid ≡ record { ran = ran; machine = self.new }) }
     {
-        match index_of(&self.kernel, pid) {
-            None => Ok(None),
-            Some(i) => {
-                let ran = go_at(alloc, &mut self.users, i, quantum)?;
-                Ok(Some(ran))
-            }
+        if !live(&self.kernel, pid) {
+            return Ok(None);
         }
+        let ran = go_at(alloc, &mut self.users, pid as usize - 1, quantum)?;
+        Ok(Some(ran))
     }
 
     /// Serves the forwarded call of a process. None exactly where it is at no call that is built: a process that is at no
@@ -158,11 +151,11 @@ impl Home {
     pub fn serve(&mut self, alloc: Global, pid: u32) -> Result<Option<Reply3>, NoMemory>
         ensures { IfOk result (λ reply. replied_in self.old pid ≡ record { reply = reply; machine = self.new }) }
     {
-        let i = match index_of(&self.kernel, pid) {
-            None => return Ok(None),
-            Some(i) => i,
-        };
+        if !live(&self.kernel, pid) {
+            return Ok(None);
+        }
         self.replies.reserve(1)?;
+        let i = pid as usize - 1;
         match serve_at(alloc, &mut self.kernel, &mut self.users, i, pid)? {
             Some(reply) => {
                 self.replies.push_reserved(reply);
@@ -177,11 +170,10 @@ impl Home {
         ensures is { fell_in self.old pid ≡ record { fell = result; machine = self.new } }
         ensures replies { self.new.replies ≡ self.old.replies }
     {
-        let i = match index_of(&self.kernel, pid) {
-            None => return false,
-            Some(i) => i,
-        };
-        match fault_at(&mut self.users, i) {
+        if !live(&self.kernel, pid) {
+            return false;
+        }
+        match fault_at(&mut self.users, pid as usize - 1) {
             Some(signal) => {
                 end_by(&mut self.kernel, pid, signal);
                 true
