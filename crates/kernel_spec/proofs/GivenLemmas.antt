@@ -49,7 +49,7 @@ given_joined p parent state = length_push p.tree _
 
 -- ---- of each call
 
-given_end : (k : KernelState) (pid : ℕ) (e : End) → given (with_end k pid e) ≡ given k
+pub given_end : (k : KernelState) (pid : ℕ) (e : End) → given (with_end k pid e) ≡ given k
 given_end k pid e = by_live (is_live k pid)
   where
     by_live : (b : Bool) → given (cond b (record k { io = all_closed k.io pid; processes = ended_in k.processes pid e }) k) ≡ given k

@@ -1,2 +1,6 @@
-// The definitions of the kernel: errors, files and descriptors, its state and its calls.
+// The definitions of the kernel: files, descriptors and pipes, processes and signals, its state and its calls; and laws of them.
 #![tactic(auto)]
+
+mod laws;
+
+pub use laws::{child_shares, pids_only_grow};
