@@ -14,7 +14,7 @@ use Rattle.run_laws.proofs.Merge.{run_sorted, All_joined, join_all}
 use Rattle.run_laws.proofs.Whole.{laws_of_runs}
 use Rattle.run_laws.specs.ScriptLaw.{AtHome, ScriptLaw}
 use Rattle.run_tokens.specs.Ops.{Ops, Sound}
-use Rattle.run_tokens.specs.Deeds.{Deed, Run, Kill, Bid, Unsent, Other, Steps, Sent, Heed, Held, Served, Got, Poked, Begin, Keep, Missed, Again, Allows, Denies, Depart, Stay, Land, Told, Refused, Closed, Strange, Noted}
+use Rattle.run_tokens.specs.Deeds.{Deed, Run, Kill, Bid, Unsent, Other, Steps, Sent, Heed, Held, Served, Got, Poked, Begin, Keep, Missed, Again, Allows, Denies, Depart, Stay, Land, Told, Refused, Closed, Gossips, Strange, Noted}
 use Rattle.run_tokens.specs.Notes.{Post, Turn}
 
 -- no letter is strange
@@ -35,7 +35,7 @@ usual_from (Held p k) n l = tt
 usual_from (Served p manner number value child signal ends more poked) n l = tt
 usual_from (Got p child ended kept) n l = tt
 usual_from (Poked p used) n l = tt
-usual_from (Begin p to line) n l = tt
+usual_from (Begin p to reason) n l = tt
 usual_from (Keep p to line) n l = tt
 usual_from (Missed p to line) n l = tt
 usual_from (Again p to place line) n l = tt
@@ -47,6 +47,7 @@ usual_from (Land p source) n l = tt
 usual_from (Told p at source hops line poked) n l = tt
 usual_from (Refused p to why line) n l = tt
 usual_from (Closed line) n l = tt
+usual_from (Gossips heard other) n l = tt
 usual_from (Strange p) n l = l
 
 usual : (O : Ops) (es : List Noted) → ScriptLaw O es → Each (λ e. IsUsual e.what) es
@@ -74,7 +75,7 @@ line_usual e (Held p k) u = refl
 line_usual e (Served p manner number value child signal ends more poked) u = refl
 line_usual e (Got p child ended kept) u = refl
 line_usual e (Poked p used) u = refl
-line_usual e (Begin p to line) u = refl
+line_usual e (Begin p to reason) u = refl
 line_usual e (Keep p to line) u = refl
 line_usual e (Missed p to line) u = refl
 line_usual e (Again p to place line) u = refl
@@ -86,6 +87,7 @@ line_usual e (Land p source) u = refl
 line_usual e (Told p at source hops line poked) u = refl
 line_usual e (Refused p to why line) u = refl
 line_usual e (Closed line) u = refl
+line_usual e (Gossips heard other) u = refl
 line_usual e (Strange p) u = absurd u
 
 module _ (O : Ops) where

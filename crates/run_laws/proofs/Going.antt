@@ -1,5 +1,5 @@
 -- Where a kind of turn applies such a turn can be made, in every run.
-use Rattle.std.proofs.Common.{◌≡◌, ◌≢◌, ℕ, zero, suc, ◌+◌, ◌<◌, ◌≤◌, ◌==◌, ◌⊎◌, inl, inr, Bool, true, false, cond, Option, Some, None, List, [], ◌∷◌, ◌++◌, refl, sym, ap, ◌∙◌, subst, arith}
+use Rattle.std.proofs.Common.{◌≡◌, ◌≢◌, ℕ, zero, suc, ◌+◌, ◌-◌, ◌<◌, ◌≤◌, ◌==◌, ◌⊎◌, inl, inr, Bool, true, false, cond, Option, Some, None, List, [], ◌∷◌, ◌++◌, refl, sym, ap, ◌∙◌, subst, arith}
 use Rattle.std.specs.Prelude.{ℤ, slice_get}
 use Rattle.std.proofs.lemmas.Bool.Decides.{leb_tells}
 use lib.Dec.{leb}
@@ -8,18 +8,19 @@ use Rattle.node_event.specs.declared.script.Order.{Order}
 use Rattle.node_event.specs.declared.script.Order.TheVariants as order
 use Rattle.node_event.specs.declared.script.ScriptLine.{ScriptLine}
 use Rattle.run_tokens.specs.Ops.{Ops, Sound, Acted, typed, has_text}
-use Rattle.run_tokens.specs.Gossip.{one_step}
-use Rattle.run_tokens.specs.Deeds.{runs_before, feeds_before, Input, Text, Finish, Nothing, Manner, Did, Broke, Fell, Paused, Deed, Run, Kill, Bid, Unsent, Other, Steps, Sent, Heed, Held, Served, Got, Poked, Begin, Keep, Missed, Again, Allows, Denies, Depart, Stay, Land, Told, Refused, Closed, Strange}
-use Rattle.run_tokens.specs.Notes.{Progress, served_one, is_some, Call, Pause, Reply, Go, Post, letter, Turn, Body, context, fresh, Called, Running, Waiting, Slot, Local}
+use Rattle.run_tokens.specs.Gossip.{Entry, Gossip, one_step, Choice, Sight, Movable, renewed, told_places, gossip_after}
+use Rattle.run_tokens.specs.Deeds.{Chosen, runs_before, feeds_before, Input, Text, Finish, Nothing, Manner, Did, Broke, Fell, Paused, Deed, Run, Kill, Bid, Unsent, Other, Steps, Sent, Heed, Held, Served, Got, Poked, Begin, Keep, Missed, Again, Allows, Denies, Depart, Stay, Land, Told, Refused, Closed, Gossips, Strange}
+use Rattle.run_tokens.specs.Notes.{Progress, served_one, is_some, Call, Pause, Reply, Go, Half, Ask, Asking, Post, letter, Turn, Body, context, fresh, Called, Running, Waiting, Slot, Local}
 use Rattle.run_tokens.specs.Spots.{Spot}
 use Rattle.run_tokens.specs.Home.{UnsentFor, First, Last, last, done_of, value_of, to_poke, both, pokes, born_at}
-use Rattle.run_tokens.specs.Does.{Does, ServedBy, EnabledHere, Ordered, Feeds, Makes, Quantum, hosts, holds, pokes_of}
+use Rattle.run_tokens.specs.Does.{Does, ServedBy, EnabledHere, Ordered, Feeds, Makes, Quantum, InUse, Loaded, CanMove, NoneRuns, HalfDueTo, seen, Talks, hosts, holds, pokes_of}
 use Rattle.run_tokens.specs.Cluster.{World, for_link, Goes, events}
-use Rattle.run_tokens.specs.Rests.{Kind, Retry, RunOn, NextLine, Applies, HalfFirst, HalfDue}
+use Rattle.run_tokens.specs.Rests.{Kind, Retry, RunOn, NextLine, SendHalf, Applies}
 use Rattle.run_tokens.proofs.Talk.{numbers_same, numbers_other}
 use Rattle.run_tokens.proofs.Process.{cond_here, cond_off, call_tells}
 use Rattle.run_tokens.proofs.Stand.{Stands, Path}
 use Rattle.run_laws.specs.Going.{Able}
+use Rattle.run_laws.proofs.Here.{can_run, loaded, in_use, can_move}
 use Rattle.run_laws.proofs.Sleeps.{Sleeps, Since, path_sleeps}
 
 module _ (O : Ops) (S : Sound O) where
@@ -60,7 +61,7 @@ module _ (O : Ops) (S : Sound O) where
     line_next (Got p child ended kept) d x = line_same old.progress new.progress d.still.progress x
     line_next (Poked p true) d x = line_same old.progress new.progress d.still.progress x
     line_next (Poked p false) d x = line_same old.progress new.progress d.still.progress x
-    line_next (Begin p to line) d x = line_same old.progress new.progress d.still.progress x
+    line_next (Begin p to reason) d x = line_same old.progress new.progress d.still.progress x
     line_next (Keep p to line) d x = line_same old.progress new.progress d.still.progress x
     line_next (Missed p to line) d x = line_same old.progress new.progress d.still.progress x
     line_next (Again p to place line) d x = line_same old.progress new.progress d.still.progress x
@@ -73,6 +74,7 @@ module _ (O : Ops) (S : Sound O) where
     line_next (Refused p to why line) (inl d) x = line_same old.progress new.progress d.still.progress x
     line_next (Refused p to why line) (inr d) x = line_same old.progress new.progress d.still.progress x
     line_next (Closed line) d x = line_same old.progress new.progress d.still.progress x
+    line_next (Gossips heard other) d x = line_same old.progress new.progress d.still.progress x
     line_next (Strange p) d x = line_same old.progress new.progress d.still.progress x
 
   home_line : (w : World O) (t : Turn O) (v : World O) → Goes O w t v → LineAt (w.nodes 0).progress → LineAt (v.nodes 0).progress
@@ -135,28 +137,28 @@ module _ (O : Ops) (S : Sound O) where
     makes : (what : Deed) (posted : List (Post O)) (new : Local O) → new.clock ≡ old.clock + 1 → Does O what n old (turn what posted) new → Made
     makes what posted new clock does = (turn what posted, new, record { node = refl; below = below; stamp_is = omega arith; clock = clock; does = does }, refl, refl)
 
-    run_made : (p : ℕ) (b : Body O) → (old.slots p).context ≡ Some (context O b Running) → HalfFirst O old p ⊎ Made
-    run_made p b was = by_poke b.poked refl
+    run_made : (p : ℕ) (b : Body O) → (old.slots p).context ≡ Some (context O b Running) → (2 ≤ O.nodes → 16 ≤ old.gossip.steps → Made) → Made
+    run_made p b was half = by_poke b.poked refl
       where
-        by_steps : b.poked ≡ false → O.asks b.user ≡ None → Ran b.user → HalfFirst O old p ⊎ Made
+        by_steps : b.poked ≡ false → O.asks b.user ≡ None → Ran b.user → Made
         by_steps calm asks r = go (leb_tells 2 O.nodes) (leb_tells 16 old.gossip.steps)
           where
             steps : (2 ≤ O.nodes → old.gossip.steps < 16) → Ran b.user → Made
             steps few (k, v, went, bounds) = makes (Steps p k) [] (record { clock = old.clock + 1; kernel = old.kernel; slots = put p (hosts O (Some (context O (record b { user = v }) Running))); believed = old.believed; progress = old.progress; gossip = one_step old.gossip }) refl
                 (record { body = b; user = v; was = was; unpoked = calm; went = went; bounds = bounds; no_half = few; base = record { took = refl; posts = refl; slots = λ q. refl }; still = record { kernel = refl; believed = λ q. refl; progress = refl; gossip = refl } })
 
-            go : ((leb 2 O.nodes ≡ true) × (2 ≤ O.nodes)) ⊎ ((leb 2 O.nodes ≡ false) × (O.nodes < 2)) → ((leb 16 old.gossip.steps ≡ true) × (16 ≤ old.gossip.steps)) ⊎ ((leb 16 old.gossip.steps ≡ false) × (old.gossip.steps < 16)) → HalfFirst O old p ⊎ Made
-            go (inl x) (inl y) = inl (record { body = b; runs = was; unpoked = calm; steps = asks; others = x.1; due = y.1 })
-            go (inl x) (inr y) = inr (steps (λ z. y.1) r)
-            go (inr x) y = let few = x.1 in inr (steps (λ z. absurd (omega (arith, z, few))) r)
+            go : ((leb 2 O.nodes ≡ true) × (2 ≤ O.nodes)) ⊎ ((leb 2 O.nodes ≡ false) × (O.nodes < 2)) → ((leb 16 old.gossip.steps ≡ true) × (16 ≤ old.gossip.steps)) ⊎ ((leb 16 old.gossip.steps ≡ false) × (old.gossip.steps < 16)) → Made
+            go (inl x) (inl y) = half x.1 y.1
+            go (inl x) (inr y) = steps (λ z. y.1) r
+            go (inr x) y = let few = x.1 in steps (λ z. absurd (omega (arith, z, few))) r
 
-        by_asks : b.poked ≡ false → (o : Option O.Request) → O.asks b.user ≡ o → HalfFirst O old p ⊎ Made
+        by_asks : b.poked ≡ false → (o : Option O.Request) → O.asks b.user ≡ o → Made
         by_asks calm None e = by_steps calm e (steps_of A b.user e)
-        by_asks calm (Some r) e = inr (makes (Sent p (O.number r)) (letter O n 0 (old.clock + 1) (Call p r) ∷ []) (record { clock = old.clock + 1; kernel = old.kernel; slots = put p (hosts O (Some (context O b (Waiting false None)))); believed = old.believed; progress = old.progress; gossip = old.gossip }) refl
+        by_asks calm (Some r) e = (makes (Sent p (O.number r)) (letter O n 0 (old.clock + 1) (Call p r) ∷ []) (record { clock = old.clock + 1; kernel = old.kernel; slots = put p (hosts O (Some (context O b (Waiting false None)))); believed = old.believed; progress = old.progress; gossip = old.gossip }) refl
             (record { body = b; request = r; was = was; unpoked = calm; asks = e; number_is = refl; base = record { took = refl; posts = refl; slots = λ q. refl }; still = record { kernel = refl; believed = λ q. refl; progress = refl; gossip = refl } }))
 
-        by_poke : (k : Bool) → b.poked ≡ k → HalfFirst O old p ⊎ Made
-        by_poke true e = inr (makes (Heed p) (letter O n 0 (old.clock + 1) (Pause p (O.room b.user)) ∷ []) (record { clock = old.clock + 1; kernel = old.kernel; slots = put p (hosts O (Some (context O (record b { poked = false }) (Waiting true None)))); believed = old.believed; progress = old.progress; gossip = old.gossip }) refl
+        by_poke : (k : Bool) → b.poked ≡ k → Made
+        by_poke true e = (makes (Heed p) (letter O n 0 (old.clock + 1) (Pause p (O.room b.user)) ∷ []) (record { clock = old.clock + 1; kernel = old.kernel; slots = put p (hosts O (Some (context O (record b { poked = false }) (Waiting true None)))); believed = old.believed; progress = old.progress; gossip = old.gossip }) refl
             (record { body = b; was = was; poked = e; base = record { took = refl; posts = refl; slots = λ q. refl }; still = record { kernel = refl; believed = λ q. refl; progress = refl; gossip = refl } }))
         by_poke false e = by_asks e (O.asks b.user) refl
 
@@ -263,17 +265,75 @@ module _ (O : Ops) (S : Sound O) where
     },
   )
 
-  pub can_go : (h : List (Turn O)) (sp : ℕ → Spot O) (w : World O) → Path O S h sp w → Stands O S sp w → Able O → (k : Kind) (n : ℕ) → n < O.nodes → Applies O k n (w.nodes n) → HalfDue O k (w.nodes n) ⊎ ((t : Turn O) × (v : World O) × Goes O w t v × (t.taken ≡ None) × (t.event.node ≡ n))
+  -- a half that is due can be sent
+  module _ (n : ℕ) (old : Local O) (below : n < O.nodes) (other load used : ℕ) (loaded : Loaded O old load) (in_use : InUse O old used) (movable : List Movable) (can_move : CanMove O old movable) (many : 2 ≤ O.nodes) (due : HalfDueTo O n other load (O.cap - used) (NoneRuns O old) old.gossip) where
+    abbrev own : Entry
+    own = record { node = n; load = load; free = O.cap - used; stamp = old.clock + 1 }
+
+    abbrev gossip : Gossip
+    gossip = gossip_after false (record { node = n; load = load; free = O.cap - used; stamp = old.clock + 1 }) [] old.gossip
+
+    abbrev told : List (Option Entry)
+    told = told_places (record { node = n; load = load; free = O.cap - used; stamp = old.clock + 1 }) old.gossip
+
+    abbrev Half_made : Type 0
+    Half_made = (t : Turn O) × (new : Local O) × Makes O n old t new × (t.taken ≡ None) × (t.event.node ≡ n)
+
+    abbrev pub talks : (chosen : Option Choice) (t : Turn O) (new : Local O) → t.event.stamp ≡ old.clock + 1 → new.gossip ≡ gossip → O.Chooses (seen O n own gossip.vector movable) chosen → Talks O false n other chosen old t new
+    talks chosen t new stamp is chooses = record {
+      own = own;
+      places = told;
+      stamp = 0;
+      used = used;
+      in_use = in_use;
+      loaded = loaded;
+      own_is = λ i. record { node = n; load = load; free = O.cap - used; stamp = (sym stamp) i };
+      sends = (many, due, refl);
+      gossip = is;
+      movable = movable;
+      can_move = can_move;
+      chooses = subst (λ (g : Gossip). O.Chooses (seen O n own g.vector movable) chosen) (sym is) chooses;
+    }
+
+    send_made : (chosen : Option Choice) → O.Chooses (seen O n own gossip.vector movable) chosen → Half_made
+    send_made None chooses =
+        let t : Turn O = record { event = record { stamp = old.clock + 1; node = n; what = Gossips false other }; taken = None; posted = letter O n other (old.clock + 1) (Half told) ∷ [] } in
+        let new : Local O = record { clock = old.clock + 1; kernel = old.kernel; slots = old.slots; believed = old.believed; progress = old.progress; gossip = gossip } in
+        (t, new, record { node = refl; below = below; stamp_is = omega arith; clock = refl; does = record { talks = talks None t new refl refl chooses; base = record { took = refl; posts = refl; slots = λ q. sym (Rattle.run_tokens.proofs.Process.cond_same (q == 0) (old.slots q)) }; still = record { kernel = refl; believed = λ q. refl; progress = refl } } }, refl, refl)
+    send_made (Some c) chooses =
+        let x = S.chosen _ c chooses in
+        let y = can_run O old movable can_move c.pid x.0 in
+        let t : Turn O = record { event = record { stamp = old.clock + 1; node = n; what = Begin c.pid c.to (Chosen false other) }; taken = None; posted = letter O n other (old.clock + 1) (Half told) ∷ letter O n c.to (old.clock + 1) (Ask c.pid (O.pages y.0.user)) ∷ [] } in
+        let new : Local O = record { clock = old.clock + 1; kernel = old.kernel; slots = λ q. cond (q == c.pid) (hosts O (Some (context O y.0 (Asking c.to None))) (old.slots q)) (old.slots q); believed = old.believed; progress = old.progress; gossip = gossip } in
+        (t, new, record { node = refl; below = below; stamp_is = omega arith; clock = refl; does = record { body = y.0; was = y.1; away = x.2; why = talks (Some c) t new refl refl chooses; base = record { took = refl; posts = refl; slots = λ q. refl }; still = record { kernel = refl; believed = λ q. refl; progress = refl } } }, refl, refl)
+
+    half_made : Half_made
+    half_made = let a = S.answers (seen O n own gossip.vector movable) in send_made a.0 a.1
+
+  -- after sixteen quanta of steps one is due
+  late_due : (n load free : ℕ) (P : Type 0) (g : Gossip) → 16 ≤ g.steps → (other : ℕ) × HalfDueTo O n other load free P g
+  late_due n load free P g late = go (leb_tells (O.nodes - 1) g.sent)
+    where
+      go : ((leb (O.nodes - 1) g.sent ≡ true) × (O.nodes - 1 ≤ g.sent)) ⊎ ((leb (O.nodes - 1) g.sent ≡ false) × (g.sent < O.nodes - 1)) → (other : ℕ) × HalfDueTo O n other load free P g
+      go (inl x) = (_, inr (x.1, refl, inl late))
+      go (inr x) = (_, inl (x.1, refl))
+
+  pub can_go : (h : List (Turn O)) (sp : ℕ → Spot O) (w : World O) → Path O S h sp w → Stands O S sp w → Able O → (k : Kind) (n : ℕ) → n < O.nodes → Applies O k n (w.nodes n) → (t : Turn O) × (v : World O) × Goes O w t v × (t.taken ≡ None) × (t.event.node ≡ n)
   can_go h sp w path st A kind n below x = go (made kind x)
     where
       no_fault : (p : ℕ) (c : Called O) → n ≡ 0 → ((w.nodes n).slots p).call ≡ Some c → O.number c.request ≢ 0
       no_fault p c home was = let y = call_tells O p (sp p) w (st.at p) n home c was in (subst (Sleeps O S p (Since O S (events O h) p)) y.2 (path_sleeps O S h sp w path p)).2
 
-      made : (k : Kind) → Applies O k n (w.nodes n) → HalfDue O k (w.nodes n) ⊎ Made A n (w.nodes n) below
-      made (Retry p) (home, d) = inr (retry_made A n (w.nodes n) below home p d.call.from d.call.request d.held (no_fault p d.call home d.held) d.ready)
-      made (RunOn p) (b, was) = run_made A n (w.nodes n) below p b was
-      made NextLine (home, d) = inr (line_made A n (w.nodes n) below home d.line.line (rises A (w.nodes n).progress d.line (subst (λ (k : ℕ). LineAt (w.nodes k).progress) (sym home) (path_line h sp w path)) d.next) d.line.order (d.next, d.enabled))
+      late : 2 ≤ O.nodes → 16 ≤ (w.nodes n).gossip.steps → Made A n (w.nodes n) below
+      late many steps =
+          let d = late_due n _ _ (NoneRuns O (w.nodes n)) (w.nodes n).gossip steps in
+          half_made n (w.nodes n) below d.0 _ _ (loaded O S sp w st n) (in_use O S sp w st n) _ (can_move O S sp w st n) many d.1
 
-      go : HalfDue O kind (w.nodes n) ⊎ Made A n (w.nodes n) below → HalfDue O kind (w.nodes n) ⊎ ((t : Turn O) × (v : World O) × Goes O w t v × (t.taken ≡ None) × (t.event.node ≡ n))
-      go (inl half) = inl half
-      go (inr (t, new, makes, off, is)) = let v = whole w n t new makes off is in inr (t, v.0, v.1, off, is)
+      made : (k : Kind) → Applies O k n (w.nodes n) → Made A n (w.nodes n) below
+      made (Retry p) (home, d) = retry_made A n (w.nodes n) below home p d.call.from d.call.request d.held (no_fault p d.call home d.held) d.ready
+      made (RunOn p) (b, was) = run_made A n (w.nodes n) below p b was late
+      made NextLine (home, d) = line_made A n (w.nodes n) below home d.line.line (rises A (w.nodes n).progress d.line (subst (λ (k : ℕ). LineAt (w.nodes k).progress) (sym home) (path_line h sp w path)) d.next) d.line.order (d.next, d.enabled)
+      made (SendHalf other) d = half_made n (w.nodes n) below other d.load d.used d.loaded d.in_use _ (can_move O S sp w st n) d.many d.due
+
+      go : Made A n (w.nodes n) below → (t : Turn O) × (v : World O) × Goes O w t v × (t.taken ≡ None) × (t.event.node ≡ n)
+      go (t, new, makes, off, is) = let v = whole w n t new makes off is in (t, v.0, v.1, off, is)

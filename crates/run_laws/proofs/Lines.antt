@@ -1,7 +1,7 @@
 -- Each move line has at most one outcome: its errand is in one place, and is settled once.
 use Rattle.std.proofs.Common.{◌≡◌, ◌≢◌, ℕ, ◌+◌, ◌<◌, ◌≤◌, ◌==◌, ◌⊎◌, inl, inr, Bool, true, false, cond, Option, Some, None, List, [], ◌∷◌, refl, sym, ap, ◌∙◌, subst, arith}
 use Rattle.run_tokens.specs.Ops.{Ops, Sound, is_child}
-use Rattle.run_tokens.specs.Deeds.{Manner, Did, Broke, Fell, Paused, Why, KeptTold, Deed, Run, Kill, Bid, Unsent, Other, Steps, Sent, Heed, Held, Served, Got, Poked, Begin, Keep, Missed, Again, Allows, Denies, Depart, Stay, Land, Told, Refused, Closed, Strange, pid_of, child_of}
+use Rattle.run_tokens.specs.Deeds.{ForLine, Chosen, Manner, Did, Broke, Fell, Paused, Why, KeptTold, Deed, Run, Kill, Bid, Unsent, Other, Steps, Sent, Heed, Held, Served, Got, Poked, Begin, Keep, Missed, Again, Allows, Denies, Depart, Stay, Land, Told, Refused, Closed, Gossips, Strange, pid_of, child_of}
 use Rattle.run_tokens.specs.Notes.{Note, Call, Pause, Reply, Poke, Half, Go, NotHere, Ask, Allow, Deny, Move, Landed, NoMove, Post, Turn, letter, Body, Kept, Local, Believed, Waiting, Asking, Way, way, Progress}
 use Rattle.run_tokens.specs.Spots.{Spot, Travels}
 use Rattle.run_tokens.specs.Cluster.{World, Goes}
@@ -213,7 +213,7 @@ module _ (O : Ops) (S : Sound O) where
     line_grows (Got p child ended kept) d = omega (arith, lines_same d.still.progress)
     line_grows (Poked p true) d = omega (arith, lines_same d.still.progress)
     line_grows (Poked p false) d = omega (arith, lines_same d.still.progress)
-    line_grows (Begin p to line) d = omega (arith, lines_same d.still.progress)
+    line_grows (Begin p to reason) d = omega (arith, lines_same d.still.progress)
     line_grows (Keep p to line) d = omega (arith, lines_same d.still.progress)
     line_grows (Missed p to line) d = omega (arith, lines_same d.still.progress)
     line_grows (Again p to place line) d = omega (arith, lines_same d.still.progress)
@@ -226,6 +226,7 @@ module _ (O : Ops) (S : Sound O) where
     line_grows (Refused p to why line) (inl d) = omega (arith, lines_same d.still.progress)
     line_grows (Refused p to why line) (inr d) = omega (arith, lines_same d.still.progress)
     line_grows (Closed line) d = omega (arith, lines_same d.still.progress)
+    line_grows (Gossips heard other) d = omega (arith, lines_same d.still.progress)
     line_grows (Strange p) d = omega (arith, lines_same d.still.progress)
 
     home_grows : (what : Deed) → Does O what n old t new → (w.nodes 0).progress.line ≤ (v.nodes 0).progress.line
@@ -343,15 +344,15 @@ module _ (O : Ops) (S : Sound O) where
               (inr (refl, ap (λ (e : Errand). settled e + 1) (sym new_line))),
         )
 
-    begin_line : (p to line : ℕ) (f : Facts) (r : Spot O) → (d : Does O (Begin p to line) n old t new) → Needs O (Begin p to line) n old new (sp p) r → Result (Begin p to line) f r
+    begin_line : (p to line : ℕ) (f : Facts) (r : Spot O) → (d : Does O (Begin p to (ForLine line)) n old t new) → Needs O (Begin p to (ForLine line)) n old new (sp p) r → Result (Begin p to (ForLine line)) f r
     begin_line p to line f r d need =
         let was = errand_tells line (er line) _ (was_under O (of_line O line) w t v goes (errand_way O line (er line)) _ (under line) d.base.took (itself line)).0 in
         let not = away line _ was.0 (λ q x. cc) in (
           set line (With p),
-          touched (Begin p to line) f r line (With p) _ _ d d.base.took d.base.posts refl (tt, tt)
+          touched (Begin p to (ForLine line)) f r line (With p) _ _ d d.base.took d.base.posts refl (tt, tt)
               (comes_in O (of_line O line) w t v goes (errand_way O line (er line)) _ _ (under line) d.base.took (itself line) d.base.posts (refl, tt))
-              (λ q ne x. not q x) (λ k x. (λ e. refl, λ ne. absurd (ne (is_line (Begin p to line) r d need line refl k x))))
-              (tried (Begin p to line) d line _ was.0 (λ z. cc)) (inl (refl, sym (ap settled was.0))),
+              (λ q ne x. not q x) (λ k x. (λ e. refl, λ ne. absurd (ne (is_line (Begin p to (ForLine line)) r d need line refl k x))))
+              (tried (Begin p to (ForLine line)) d line _ was.0 (λ z. cc)) (inl (refl, sym (ap settled was.0))),
         )
 
     keep_line : (p to line : ℕ) (f : Facts) (r : Spot O) → (d : Does O (Keep p to line) n old t new) → Needs O (Keep p to line) n old new (sp p) r → Result (Keep p to line) f r
@@ -544,7 +545,9 @@ module _ (O : Ops) (S : Sound O) where
     lines_at (Got p child ended kept) f r fl d need = got_line p child ended kept f r fl d need
     lines_at (Poked p true) f r fl d need = plain (Poked p true) f r _ _ d need d.base.took d.base.posts tt tt refl refl
     lines_at (Poked p false) f r fl d need = plain (Poked p false) f r _ _ d need d.base.took d.base.posts tt tt refl refl
-    lines_at (Begin p to line) f r fl d need = begin_line p to line f r d need
+    lines_at (Begin p to (ForLine line)) f r fl d need = begin_line p to line f r d need
+    lines_at (Begin p to (Chosen false other)) f r fl d need = (er, untouched (Begin p to (Chosen false other)) f r _ _ d d.base.took d.base.posts tt (tt, (tt, tt)) (drops (Begin p to (Chosen false other)) r d need refl) refl)
+    lines_at (Begin p to (Chosen true other)) f r fl d need = (er, untouched (Begin p to (Chosen true other)) f r _ _ d d.base.took d.base.posts tt (tt, tt) (drops (Begin p to (Chosen true other)) r d need refl) refl)
     lines_at (Keep p to line) f r fl d need = keep_line p to line f r d need
     lines_at (Missed p to line) f r fl d need = miss_line p to line f r d need
     lines_at (Again p to place line) f r fl d need = again_line p to place line f r d need
@@ -556,6 +559,8 @@ module _ (O : Ops) (S : Sound O) where
     lines_at (Told p at source hops line poked) f r fl d need = told_line p at source hops line poked f r d need
     lines_at (Refused p to why line) f r fl d need = refused_go_line p to why line f r d need
     lines_at (Closed line) f r fl d need = close_line line f r d need
+    lines_at (Gossips false other) f r fl d need = (er, untouched (Gossips false other) f r _ _ d d.base.took d.base.posts tt (tt, tt) (keeps (Gossips false other) r d need refl) refl)
+    lines_at (Gossips true other) f r fl d need = (er, untouched (Gossips true other) f r _ _ d d.base.took d.base.posts tt tt (keeps (Gossips true other) r d need refl) refl)
     lines_at (Strange p) f r fl d need = absurd need
 
   born_line : (what : Deed) (n : ℕ) (s : Spot O) (c : ℕ) → child_of what ≡ Some c → (facts_of O S (born_spot O what n s c)).line ≡ None
@@ -571,7 +576,7 @@ module _ (O : Ops) (S : Sound O) where
   born_line (Served p manner number value child signal ends more poked) n s c e = refl
   born_line (Got p child ended kept) n s c e = refl
   born_line (Poked p used) n s c e = absurd cc
-  born_line (Begin p to line) n s c e = absurd cc
+  born_line (Begin p to reason) n s c e = absurd cc
   born_line (Keep p to line) n s c e = absurd cc
   born_line (Missed p to line) n s c e = absurd cc
   born_line (Again p to place line) n s c e = absurd cc
@@ -583,6 +588,7 @@ module _ (O : Ops) (S : Sound O) where
   born_line (Told p at source hops line poked) n s c e = absurd cc
   born_line (Refused p to why line) n s c e = absurd cc
   born_line (Closed line) n s c e = absurd cc
+  born_line (Gossips heard other) n s c e = absurd cc
   born_line (Strange p) n s c e = absurd cc
 
   -- the invariant of lines

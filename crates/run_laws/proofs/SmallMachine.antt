@@ -1,12 +1,13 @@
 -- The facts of the small machine.
-use Rattle.std.proofs.Common.{arith, ◌≡◌, ◌<◌, ◌≢◌, ℕ, ◌+◌, ◌==◌, Bool, true, false, cond, Option, Some, None, List, refl, sym, ap, ◌∙◌}
+use Rattle.std.proofs.Common.{arith, ◌≡◌, ◌<◌, ◌≤◌, ◌≢◌, ℕ, ◌+◌, ◌==◌, Bool, true, false, cond, Option, Some, None, List, refl, sym, ap, ◌∙◌}
 use Rattle.std.specs.Prelude.{ℤ, nat_lt, slice_get}
 use Rattle.std.proofs.lemmas.Bool.Decides.{nat_tests}
 use Rattle.call_table.specs.declared.process.End.{End}
 use Rattle.node_event.specs.declared.script.ScriptLine.{ScriptLine}
 use Rattle.run_tokens.specs.Ops.{Sound, IsMove, Acted, is_child, counted}
+use Rattle.run_tokens.specs.Gossip.{Sight, Choice, IsKnown, IsMovable}
 use Rattle.run_tokens.specs.Deeds.{order_at}
-use Rattle.run_laws.specs.SmallMachine.{Request, ExitCall, ForkCall, ReadCall, WriteCall, KillCall, FaultAt, Thing, Program, Table, grown, gone, with_todo, living, launch_by, fork_by, hit_by, raised_at, served_by, signal_or, taken_by, small, end_by}
+use Rattle.run_laws.specs.SmallMachine.{Request, ExitCall, ForkCall, ReadCall, WriteCall, KillCall, FaultAt, Thing, Program, Table, grown, gone, with_todo, living, launch_by, fork_by, hit_by, raised_at, served_by, signal_or, taken_by, no_choice, small_of, small, end_by}
 use Rattle.run_tokens.proofs.Talk.{same_numbers}
 use Rattle.run_tokens.proofs.Process.{cond_here, cond_off}
 
@@ -154,11 +155,11 @@ take_quiet : (b : Bool) (k : Table) (p q : ℕ) → q ≢ p → cond ((taken_by 
 take_quiet true k p q ne = (λ i. cond ((cond_off q p false (k.alive q) ne) i) ((cond_off q p None (k.pending q) ne) i) None)
 take_quiet false k p q ne = ap (λ (o : Option ℕ). cond (k.alive q) o None) (cond_off q p None (k.pending q) ne)
 
-pub sound : (script : List ScriptLine) (programs : List Program) → ((k : ℕ) (s : ScriptLine) → slice_get script k ≡ Some s → order_at s.line script ≡ Some s.order) → ((line p to : ℕ) → IsMove (small script programs) line p to → to < 2) → Sound (small script programs)
-sound script programs lines targets = record {
+pub sound_of : (nodes : ℕ) (policy : Sight → Option Choice) → 1 ≤ nodes → ((s : Sight) (c : Choice) → policy s ≡ Some c → IsMovable c.pid s.movable × IsKnown c.to s.known × (c.to ≢ s.node)) → (script : List ScriptLine) (programs : List Program) → ((k : ℕ) (s : ScriptLine) → slice_get script k ≡ Some s → order_at s.line script ≡ Some s.order) → ((line p to : ℕ) → IsMove (small_of nodes policy script programs) line p to → to < nodes) → Sound (small_of nodes policy script programs)
+sound_of nodes policy some chosen script programs lines targets = record {
   lines = lines;
   targets = targets;
-  some = omega arith;
+  some = some;
   count_new = refl;
   count_launch = λ k l e. ap (λ (x : Table). x.count) (sym (launched k l (nat_lt (living k) 64) refl e).0);
   count_raise = λ k p s. raised_count (k.alive p) p s k;
@@ -192,7 +193,8 @@ sound script programs lines targets = record {
   pid_given = λ u a. refl;
   pid_entered = λ u t. refl;
   pid_forked = λ u c. refl;
-  chosen = λ s c e. absurd cc;
+  answers = λ s. (policy s, refl);
+  chosen = λ s c e. chosen s c (sym e);
   fits_asks = λ u r e. refl;
   fits_serve = λ k p u r d a n e. refl;
   fits_broken = λ k p s u r a b c n e. refl;
@@ -202,3 +204,6 @@ sound script programs lines targets = record {
   pages_given = λ u a. refl;
   pages_entered = λ u t. refl;
 }
+
+pub sound : (script : List ScriptLine) (programs : List Program) → ((k : ℕ) (s : ScriptLine) → slice_get script k ≡ Some s → order_at s.line script ≡ Some s.order) → ((line p to : ℕ) → IsMove (small script programs) line p to → to < 2) → Sound (small script programs)
+sound script programs lines targets = sound_of 2 no_choice (omega arith) (λ s c e. absurd cc) script programs lines targets

@@ -11,7 +11,7 @@ use Rattle.node_event.specs.declared.script.Order.TheVariants as order
 use Rattle.node_event.specs.declared.script.ScriptLine.{ScriptLine}
 use Rattle.run_tokens.specs.Ops.{Ops}
 use Rattle.run_tokens.specs.Deeds.{Noted, all_noted}
-use Rattle.run_laws.specs.SmallMachine.{ExitCall, ForkCall, ReadCall, WriteCall, Thing, Goes, Calls, Program, small}
+use Rattle.run_laws.specs.SmallMachine.{ExitCall, ForkCall, ReadCall, WriteCall, Thing, Goes, Calls, Program, no_choice, small_of, small}
 
 abbrev pub at : ℕ → ℕ → What → Event
 at stamp node w = record { stamp = stamp; node = node; what = w }
@@ -31,7 +31,7 @@ abbrev pub hello_script : List ScriptLine
 hello_script = line 1 (order.Run []) ∷ []
 
 abbrev pub hello : Ops
-hello = small hello_script (program (Goes ∷ Goes ∷ Goes ∷ Goes ∷ Goes ∷ Calls (WriteCall 3) ∷ Goes ∷ Goes ∷ Calls (ExitCall 0) ∷ []) ∷ [])
+hello = small_of 1 no_choice hello_script (program (Goes ∷ Goes ∷ Goes ∷ Goes ∷ Goes ∷ Calls (WriteCall 3) ∷ Goes ∷ Goes ∷ Calls (ExitCall 0) ∷ []) ∷ [])
 
 abbrev pub hello_events : List Event
 hello_events =

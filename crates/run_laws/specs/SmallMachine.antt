@@ -5,6 +5,7 @@ use Rattle.call_table.specs.declared.process.End.{End}
 use Rattle.call_table.specs.declared.process.End.TheVariants as end
 use Rattle.node_event.specs.declared.script.ScriptLine.{ScriptLine}
 use Rattle.run_tokens.specs.Ops.{Ops, Acted, sum_below, one_if}
+use Rattle.run_tokens.specs.Gossip.{Sight, Choice}
 
 pub data Request : Type 0 where
   ExitCall : (code : ℕ) → Request
@@ -133,8 +134,12 @@ abbrev pub fault_of : Request → ℕ
 fault_of (FaultAt s) = s
 fault_of _ = 0
 
-abbrev pub small : List ScriptLine → List Program → Ops
-small script programs = record {
+abbrev pub no_choice : Sight → Option Choice
+no_choice s = None
+
+-- of so many nodes, under this policy
+abbrev pub small_of : ℕ → (Sight → Option Choice) → List ScriptLine → List Program → Ops
+small_of nodes policy script programs = record {
   User = Program;
   Kernel = Table;
   Request = Request;
@@ -144,7 +149,7 @@ small script programs = record {
   images = length programs;
   texts = 0;
   loaded = λ i p. named p (program_at programs i);
-  nodes = 2;
+  nodes = nodes;
   cap = 4;
   quantum = 100;
   went = λ u k. with_todo u (gone u.todo k);
@@ -161,7 +166,7 @@ small script programs = record {
   fits_request = λ r. true;
   fits_answer = λ u a. true;
   fits_taken = λ u t. true;
-  Chooses = λ s o. o ≡ None;
+  Chooses = λ s o. o ≡ policy s;
   word = λ n k. 0;
   new_kernel = new_table;
   count = λ k. k.count;
@@ -180,3 +185,7 @@ small script programs = record {
   take = λ k p b. record { kernel = taken_by (signal_or (k.pending p) == 9) p k; taken = signal_or (k.pending p); raised = None };
   fall = λ k p r. record { kernel = ended p (end.Signal (fault_of r)) k; raised = None };
 }
+
+-- of two nodes, under a policy that moves nothing
+abbrev pub small : List ScriptLine → List Program → Ops
+small script programs = small_of 2 no_choice script programs

@@ -8,6 +8,7 @@ use Rattle.run_laws.specs.Machine.{MachineState, play}
 use Rattle.run_laws.specs.Schedule.{schedule, told}
 use Rattle.run_laws.specs.Lawful.{Lawful}
 use Rattle.run_laws.specs.SilentLaw.{SilentLaw}
+use Rattle.run_laws.specs.Honest.{HonestLaw}
 use Rattle.run_laws.specs.OnePlace.{OnePlace}
 use Rattle.run_laws.specs.Outcomes.{outcomes}
 use Rattle.run_laws.specs.MoveLines.{MoveLines}
@@ -28,6 +29,7 @@ module _ (O : Ops) where
     pub replays : Replays es w
     pub lawful : Lawful O es
     pub silent : SilentLaw O es
+    pub honest : HonestLaw O es
     pub one_place : OnePlace O es
     pub grounded : Grounded O es
     pub move_lines : MoveLines O es
