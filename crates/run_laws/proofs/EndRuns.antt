@@ -16,12 +16,13 @@ use Rattle.run_tokens.proofs.Process.{cond_off, cond_same}
 use Rattle.run_laws.specs.Machine.{MachineState}
 use Rattle.run_laws.specs.Due.{DueAs}
 use Rattle.run_laws.specs.Ending.{Ending}
-use Rattle.run_laws.specs.SmallMachine.{no_choice, ExitCall, ReadCall, WriteCall, Table, Goes as Step, Calls, new_table, grown, ended, plain}
+use Rattle.run_laws.specs.SmallMachine.{no_choice, ExitCall, ReadCall, WriteCall, Table, Goes as Step, Calls, new_table, grown, ended, plain, exit_by}
 use Rattle.run_laws.specs.Histories.{program, hello_script, hello}
 use Rattle.run_laws.specs.EndStories.{reader_script, reader, keeper_script, keeper}
 use Rattle.run_laws.proofs.SmallMachine.{sound_of, sound}
 use Rattle.run_laws.proofs.Ending.{end_of_runs}
 use Rattle.run_laws.proofs.EndStories.{hello_end, hello_nothing, reader_end, reader_nothing, keeper_end, keeper_nothing}
+use Rattle.run_tokens.proofs.Progress.{itself}
 
 -- a script of one launch asks for no move
 one_line : (k : ℕ) (s : ScriptLine) → slice_get reader_script k ≡ Some s → order_at s.line reader_script ≡ Some s.order
@@ -119,7 +120,7 @@ abbrev reader_world0 : World reader
 reader_world0 = alone reader new_table reader_home0 []
 
 abbrev reader_home1 : Local reader
-reader_home1 = record { clock = 1; kernel = grown new_table; slots = λ q. cond (q == 1) (hosts reader (Some (context reader (fresh reader (reader.loaded 0 1)) Running)) (reader_home0.slots q)) (reader_home0.slots q); believed = λ q. cond (q == 1) (record { place = 0; hops = 0 }) (reader_home0.believed q); progress = record { line = 1; done = 1; launched = 1 ∷ []; served = λ p. 0 }; gossip = reader_home0.gossip }
+reader_home1 = record { clock = 1; kernel = grown new_table; slots = λ q. cond (q == 1) (hosts reader (Some (context reader (fresh reader (reader.loaded 0 1)) Running)) (reader_home0.slots q)) (reader_home0.slots q); believed = λ q. cond (q == 1) (record { place = 0; hops = 0 }) (reader_home0.believed q); progress = record { line = 2; done = 1; launched = 1 ∷ []; served = λ p. 0 }; gossip = reader_home0.gossip }
 
 abbrev reader_turn1 : Turn reader
 reader_turn1 = record { event = record { stamp = 1; node = 0; what = Run 1 0 1 }; taken = None; posted = [] }
@@ -128,7 +129,7 @@ abbrev reader_world1 : World reader
 reader_world1 = alone reader new_table reader_home1 ([])
 
 reader_goes1 : Goes reader reader_world0 reader_turn1 reader_world1
-reader_goes1 = record { makes = record { node = refl; below = omega arith; stamp_is = omega arith; clock = refl; does = record { home = refl; image = refl; launched = refl; next = refl; base = record { took = refl; posts = refl; slots = λ q. refl }; gossip = refl; believed = λ q. refl; words = []; order = record { next = refl; enabled = λ z. cc; rises = omega arith; is = refl } } }; elsewhere = λ m ne. cond_off m 0 reader_home1 _ ne ∙ sym (cond_off m 0 reader_home0 _ ne); rest = λ a b. cond ((a == 0) && (b == 0)) ([]) []; takes = λ a b. refl; posts = λ a b. posts_none reader ((a == 0) && (b == 0)) }
+reader_goes1 = record { makes = record { node = refl; below = omega arith; stamp_is = omega arith; clock = refl; does = record { home = refl; image = refl; launched = refl; next = refl; base = record { took = refl; posts = refl; slots = λ q. refl }; gossip = refl; believed = λ q. refl; words = []; order = record { next = refl; enabled = λ z. cc; rises = omega arith; is = itself _ } } }; elsewhere = λ m ne. cond_off m 0 reader_home1 _ ne ∙ sym (cond_off m 0 reader_home0 _ ne); rest = λ a b. cond ((a == 0) && (b == 0)) ([]) []; takes = λ a b. refl; posts = λ a b. posts_none reader ((a == 0) && (b == 0)) }
 
 abbrev reader_home2 : Local reader
 reader_home2 = record { clock = 2; kernel = reader_home1.kernel; slots = λ q. cond (q == 1) (hosts reader (Some (context reader (fresh reader (reader.loaded 0 1)) (Waiting false None))) (reader_home1.slots q)) (reader_home1.slots q); believed = reader_home1.believed; progress = reader_home1.progress; gossip = reader_home1.gossip }
@@ -182,7 +183,7 @@ abbrev keeper_world0 : World keeper
 keeper_world0 = pair keeper new_table keeper_home0 keeper_away0 0 0 []
 
 abbrev keeper_home1 : Local keeper
-keeper_home1 = record { clock = 1; kernel = grown new_table; slots = λ q. cond (q == 1) (hosts keeper (Some (context keeper (fresh keeper (keeper.loaded 0 1)) Running)) (keeper_home0.slots q)) (keeper_home0.slots q); believed = λ q. cond (q == 1) (record { place = 0; hops = 0 }) (keeper_home0.believed q); progress = record { line = 1; done = 1; launched = 1 ∷ []; served = λ p. 0 }; gossip = keeper_home0.gossip }
+keeper_home1 = record { clock = 1; kernel = grown new_table; slots = λ q. cond (q == 1) (hosts keeper (Some (context keeper (fresh keeper (keeper.loaded 0 1)) Running)) (keeper_home0.slots q)) (keeper_home0.slots q); believed = λ q. cond (q == 1) (record { place = 0; hops = 0 }) (keeper_home0.believed q); progress = record { line = 2; done = 1; launched = 1 ∷ []; served = λ p. 0 }; gossip = keeper_home0.gossip }
 
 abbrev keeper_turn1 : Turn keeper
 keeper_turn1 = record { event = record { stamp = 1; node = 0; what = Run 1 0 1 }; taken = None; posted = [] }
@@ -191,7 +192,7 @@ abbrev keeper_world1 : World keeper
 keeper_world1 = pair keeper new_table keeper_home1 keeper_away0 0 0 ([])
 
 keeper_goes1 : Goes keeper keeper_world0 keeper_turn1 keeper_world1
-keeper_goes1 = record { makes = record { node = refl; below = omega arith; stamp_is = omega arith; clock = refl; does = record { home = refl; image = refl; launched = refl; next = refl; base = record { took = refl; posts = refl; slots = λ q. refl }; gossip = refl; believed = λ q. refl; words = []; order = record { next = refl; enabled = λ z. cc; rises = omega arith; is = refl } } }; elsewhere = λ m ne. home_only keeper new_table keeper_home0 keeper_home1 keeper_away0 m ne; rest = λ a b. []; takes = λ a b. cond_same ((a == 0) && (b == 0)) []; posts = λ a b. cond_same ((a == 0) && (b == 0)) [] }
+keeper_goes1 = record { makes = record { node = refl; below = omega arith; stamp_is = omega arith; clock = refl; does = record { home = refl; image = refl; launched = refl; next = refl; base = record { took = refl; posts = refl; slots = λ q. refl }; gossip = refl; believed = λ q. refl; words = []; order = record { next = refl; enabled = λ z. cc; rises = omega arith; is = itself _ } } }; elsewhere = λ m ne. home_only keeper new_table keeper_home0 keeper_home1 keeper_away0 m ne; rest = λ a b. []; takes = λ a b. cond_same ((a == 0) && (b == 0)) []; posts = λ a b. cond_same ((a == 0) && (b == 0)) [] }
 
 abbrev keeper_own2 : Entry
 keeper_own2 = record { node = 0; load = 1; free = 3; stamp = 2 }
@@ -278,7 +279,7 @@ keeper_goes7 : Goes keeper keeper_world6 keeper_turn7 keeper_world7
 keeper_goes7 = record { makes = record { node = refl; below = omega arith; stamp_is = omega arith; clock = refl; does = record { home = refl; from = 0; stamp = 6; request = ReadCall; number_is = refl; some = λ z. omega (arith, z); blocks = refl; quiet = refl; base = record { took = refl; posts = refl; slots = λ q. refl }; still = record { kernel = refl; believed = λ q. refl; progress = refl; gossip = refl } } }; elsewhere = λ m ne. home_only keeper new_table keeper_home4 keeper_home5 keeper_away2 m ne; rest = λ a b. []; takes = λ a b. take_all keeper ((a == 0) && (b == 0)) _; posts = λ a b. cond_same ((a == 0) && (b == 0)) [] }
 
 abbrev keeper_home6 : Local keeper
-keeper_home6 = record { clock = 8; kernel = keeper_home5.kernel; slots = λ q. cond (q == 1) (same keeper (keeper_home5.slots q)) (keeper_home5.slots q); believed = keeper_home5.believed; progress = record { line = 2; done = 2; launched = keeper_home5.progress.launched; served = keeper_home5.progress.served }; gossip = keeper_home5.gossip }
+keeper_home6 = record { clock = 8; kernel = keeper_home5.kernel; slots = λ q. cond (q == 1) (same keeper (keeper_home5.slots q)) (keeper_home5.slots q); believed = keeper_home5.believed; progress = record { line = 3; done = 2; launched = keeper_home5.progress.launched; served = keeper_home5.progress.served }; gossip = keeper_home5.gossip }
 
 abbrev keeper_turn8 : Turn keeper
 keeper_turn8 = record { event = record { stamp = 8; node = 0; what = Bid 2 1 1 }; taken = None; posted = letter keeper 0 0 8 (Go 1 1 0 2) ∷ [] }
@@ -287,7 +288,7 @@ abbrev keeper_world8 : World keeper
 keeper_world8 = pair keeper new_table keeper_home6 keeper_away2 0 0 (letter keeper 0 0 8 (Go 1 1 0 2) ∷ [])
 
 keeper_goes8 : Goes keeper keeper_world7 keeper_turn8 keeper_world8
-keeper_goes8 = record { makes = record { node = refl; below = omega arith; stamp_is = omega arith; clock = refl; does = record { home = refl; live = refl; base = record { took = refl; posts = refl; slots = λ q. refl }; kernel = refl; gossip = refl; believed = λ q. refl; order = record { next = refl; enabled = tt; rises = omega arith; is = refl } } }; elsewhere = λ m ne. home_only keeper new_table keeper_home5 keeper_home6 keeper_away2 m ne; rest = λ a b. []; takes = λ a b. cond_same ((a == 0) && (b == 0)) []; posts = λ a b. refl }
+keeper_goes8 = record { makes = record { node = refl; below = omega arith; stamp_is = omega arith; clock = refl; does = record { home = refl; live = refl; base = record { took = refl; posts = refl; slots = λ q. refl }; kernel = refl; gossip = refl; believed = λ q. refl; order = record { next = refl; enabled = tt; rises = omega arith; is = itself _ } } }; elsewhere = λ m ne. home_only keeper new_table keeper_home5 keeper_home6 keeper_away2 m ne; rest = λ a b. []; takes = λ a b. cond_same ((a == 0) && (b == 0)) []; posts = λ a b. refl }
 
 abbrev keeper_home7 : Local keeper
 keeper_home7 = record { clock = 9; kernel = keeper_home6.kernel; slots = λ q. cond (q == 1) (hosts keeper (Some (context keeper (fresh keeper (keeper.loaded 0 1)) (Waiting false (Some (record { to = 1; line = 2 }))))) (keeper_home6.slots q)) (keeper_home6.slots q); believed = keeper_home6.believed; progress = keeper_home6.progress; gossip = keeper_home6.gossip }
@@ -326,7 +327,7 @@ abbrev hello_world0 : World hello
 hello_world0 = alone hello new_table hello_home0 []
 
 abbrev hello_home1 : Local hello
-hello_home1 = record { clock = 1; kernel = grown new_table; slots = λ q. cond (q == 1) (hosts hello (Some (context hello (fresh hello (hello.loaded 0 1)) Running)) (hello_home0.slots q)) (hello_home0.slots q); believed = λ q. cond (q == 1) (record { place = 0; hops = 0 }) (hello_home0.believed q); progress = record { line = 1; done = 1; launched = 1 ∷ []; served = λ p. 0 }; gossip = hello_home0.gossip }
+hello_home1 = record { clock = 1; kernel = grown new_table; slots = λ q. cond (q == 1) (hosts hello (Some (context hello (fresh hello (hello.loaded 0 1)) Running)) (hello_home0.slots q)) (hello_home0.slots q); believed = λ q. cond (q == 1) (record { place = 0; hops = 0 }) (hello_home0.believed q); progress = record { line = 2; done = 1; launched = 1 ∷ []; served = λ p. 0 }; gossip = hello_home0.gossip }
 
 abbrev hello_turn1 : Turn hello
 hello_turn1 = record { event = record { stamp = 1; node = 0; what = Run 1 0 1 }; taken = None; posted = [] }
@@ -335,7 +336,7 @@ abbrev hello_world1 : World hello
 hello_world1 = alone hello new_table hello_home1 ([])
 
 hello_goes1 : Goes hello hello_world0 hello_turn1 hello_world1
-hello_goes1 = record { makes = record { node = refl; below = omega arith; stamp_is = omega arith; clock = refl; does = record { home = refl; image = refl; launched = refl; next = refl; base = record { took = refl; posts = refl; slots = λ q. refl }; gossip = refl; believed = λ q. refl; words = []; order = record { next = refl; enabled = λ z. cc; rises = omega arith; is = refl } } }; elsewhere = λ m ne. cond_off m 0 hello_home1 _ ne ∙ sym (cond_off m 0 hello_home0 _ ne); rest = λ a b. cond ((a == 0) && (b == 0)) ([]) []; takes = λ a b. refl; posts = λ a b. posts_none hello ((a == 0) && (b == 0)) }
+hello_goes1 = record { makes = record { node = refl; below = omega arith; stamp_is = omega arith; clock = refl; does = record { home = refl; image = refl; launched = refl; next = refl; base = record { took = refl; posts = refl; slots = λ q. refl }; gossip = refl; believed = λ q. refl; words = []; order = record { next = refl; enabled = λ z. cc; rises = omega arith; is = itself _ } } }; elsewhere = λ m ne. cond_off m 0 hello_home1 _ ne ∙ sym (cond_off m 0 hello_home0 _ ne); rest = λ a b. cond ((a == 0) && (b == 0)) ([]) []; takes = λ a b. refl; posts = λ a b. posts_none hello ((a == 0) && (b == 0)) }
 
 abbrev hello_body2 : Body hello
 hello_body2 = record { user = record { pid = 1; pages = 1; todo = Calls (WriteCall 3) ∷ Step ∷ Step ∷ Calls (ExitCall 0) ∷ [] }; hops = 0; poked = false }
@@ -383,7 +384,7 @@ abbrev hello_world4 : World hello
 hello_world4 = alone hello new_table hello_home4 (letter hello 0 0 4 (Reply 1 hello_done4) ∷ [])
 
 hello_goes4 : Goes hello hello_world3 hello_turn4 hello_world4
-hello_goes4 = record { makes = record { node = refl; below = omega arith; stamp_is = omega arith; clock = refl; does = inl (record { home = refl; from = 0; stamp = 3; request = WriteCall 3; first = hello_first4; acts = (hello_acted4, refl, λ z. omega (arith, z), refl); answers = record { kernel = refl; value_is = refl; child_is = refl; signal_is = refl; end_is = refl; more_is = refl }; number_is = refl; tells = refl; base = record { took = refl; posts = refl; slots = λ q. refl }; gossip = refl; believed = λ q. refl; progress = refl }) }; elsewhere = λ m ne. cond_off m 0 hello_home4 _ ne ∙ sym (cond_off m 0 hello_home3 _ ne); rest = λ a b. cond ((a == 0) && (b == 0)) [] []; takes = λ a b. takes_one hello ((a == 0) && (b == 0)) _; posts = λ a b. posts_one hello ((a == 0) && (b == 0)) _ }
+hello_goes4 = record { makes = record { node = refl; below = omega arith; stamp_is = omega arith; clock = refl; does = inl (record { home = refl; from = 0; stamp = 3; request = WriteCall 3; first = hello_first4; acts = (hello_acted4, refl, λ z. omega (arith, z), refl); answers = record { kernel = refl; value_is = refl; child_is = refl; signal_is = refl; end_is = refl; more_is = refl }; number_is = refl; tells = refl; base = record { took = refl; posts = refl; slots = λ q. refl }; gossip = refl; believed = λ q. refl; progress = itself _ }) }; elsewhere = λ m ne. cond_off m 0 hello_home4 _ ne ∙ sym (cond_off m 0 hello_home3 _ ne); rest = λ a b. cond ((a == 0) && (b == 0)) [] []; takes = λ a b. takes_one hello ((a == 0) && (b == 0)) _; posts = λ a b. posts_one hello ((a == 0) && (b == 0)) _ }
 
 abbrev hello_home5 : Local hello
 hello_home5 = record { clock = 5; kernel = hello_home4.kernel; slots = λ q. cond (q == 1) (hosts hello (got_context hello hello_body2 None hello_done4) (hello_home4.slots q)) (hello_home4.slots q); believed = hello_home4.believed; progress = hello_home4.progress; gossip = hello_home4.gossip }
@@ -428,7 +429,7 @@ hello_goes7 : Goes hello hello_world6 hello_turn7 hello_world7
 hello_goes7 = record { makes = record { node = refl; below = omega arith; stamp_is = omega arith; clock = refl; does = record { body = hello_body6; request = ExitCall 0; was = refl; unpoked = refl; asks = refl; number_is = refl; base = record { took = refl; posts = refl; slots = λ q. refl }; still = record { kernel = refl; believed = λ q. refl; progress = refl; gossip = refl } } }; elsewhere = λ m ne. cond_off m 0 hello_home7 _ ne ∙ sym (cond_off m 0 hello_home6 _ ne); rest = λ a b. cond ((a == 0) && (b == 0)) ([]) []; takes = λ a b. refl; posts = λ a b. posts_one hello ((a == 0) && (b == 0)) _ }
 
 abbrev hello_acted8 : Acted Table ℤ
-hello_acted8 = plain (ended 1 (end.Exit 0) hello_home7.kernel) (pos 0)
+hello_acted8 = exit_by 0 (ended 1 (end.Exit 0) hello_home7.kernel)
 
 abbrev hello_first8 : First hello
 hello_first8 = record { kernel = hello_acted8.kernel; answer = Some (hello_acted8.answer); child = None; raised = None }
@@ -446,7 +447,7 @@ abbrev hello_world8 : World hello
 hello_world8 = alone hello new_table hello_home8 (letter hello 0 0 8 (Reply 1 hello_done8) ∷ [])
 
 hello_goes8 : Goes hello hello_world7 hello_turn8 hello_world8
-hello_goes8 = record { makes = record { node = refl; below = omega arith; stamp_is = omega arith; clock = refl; does = inl (record { home = refl; from = 0; stamp = 7; request = ExitCall 0; first = hello_first8; acts = (hello_acted8, refl, λ z. omega (arith, z), refl); answers = record { kernel = refl; value_is = refl; child_is = refl; signal_is = refl; end_is = refl; more_is = refl }; number_is = refl; tells = refl; base = record { took = refl; posts = refl; slots = λ q. refl }; gossip = refl; believed = λ q. refl; progress = refl }) }; elsewhere = λ m ne. cond_off m 0 hello_home8 _ ne ∙ sym (cond_off m 0 hello_home7 _ ne); rest = λ a b. cond ((a == 0) && (b == 0)) [] []; takes = λ a b. takes_one hello ((a == 0) && (b == 0)) _; posts = λ a b. posts_one hello ((a == 0) && (b == 0)) _ }
+hello_goes8 = record { makes = record { node = refl; below = omega arith; stamp_is = omega arith; clock = refl; does = inl (record { home = refl; from = 0; stamp = 7; request = ExitCall 0; first = hello_first8; acts = (hello_acted8, refl, λ z. omega (arith, z), refl); answers = record { kernel = refl; value_is = refl; child_is = refl; signal_is = refl; end_is = refl; more_is = refl }; number_is = refl; tells = refl; base = record { took = refl; posts = refl; slots = λ q. refl }; gossip = refl; believed = λ q. refl; progress = itself _ }) }; elsewhere = λ m ne. cond_off m 0 hello_home8 _ ne ∙ sym (cond_off m 0 hello_home7 _ ne); rest = λ a b. cond ((a == 0) && (b == 0)) [] []; takes = λ a b. takes_one hello ((a == 0) && (b == 0)) _; posts = λ a b. posts_one hello ((a == 0) && (b == 0)) _ }
 
 abbrev hello_home9 : Local hello
 hello_home9 = record { clock = 9; kernel = hello_home8.kernel; slots = λ q. cond (q == 1) (hosts hello (got_context hello hello_body6 None hello_done8) (hello_home8.slots q)) (hello_home8.slots q); believed = hello_home8.believed; progress = hello_home8.progress; gossip = hello_home8.gossip }

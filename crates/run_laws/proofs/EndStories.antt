@@ -20,7 +20,7 @@ abbrev pub the : (O : Ops) → Option (MachineState O) → MachineState O
 the O None = empty O
 the O (Some m) = m
 
-first_or : (p : ℕ) → (p ≡ 1) ⊎ ((p == 1) ≡ false)
+pub first_or : (p : ℕ) → (p ≡ 1) ⊎ ((p == 1) ≡ false)
 first_or p = go (p == 1) refl
   where
     go : (b : Bool) → (p == 1) ≡ b → (p ≡ 1) ⊎ ((p == 1) ≡ false)

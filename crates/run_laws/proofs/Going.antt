@@ -10,7 +10,7 @@ use Rattle.node_event.specs.declared.script.ScriptLine.{ScriptLine}
 use Rattle.run_tokens.specs.Ops.{Ops, Sound, Acted, typed, has_text}
 use Rattle.run_tokens.specs.Gossip.{Entry, Gossip, one_step, Choice, Sight, Movable, renewed, told_places, gossip_after}
 use Rattle.run_tokens.specs.Deeds.{Chosen, runs_before, feeds_before, Input, Text, Finish, Nothing, Manner, Did, Broke, Fell, Paused, Deed, Run, Kill, Bid, Unsent, Other, Steps, Sent, Heed, Held, Served, Got, Poked, Begin, Keep, Missed, Again, Allows, Denies, Depart, Stay, Land, Told, Refused, Closed, Gossips, Strange}
-use Rattle.run_tokens.specs.Notes.{Progress, served_one, is_some, Call, Pause, Reply, Go, Half, Ask, Asking, Post, letter, Turn, Body, context, fresh, Called, Running, Waiting, Slot, Local}
+use Rattle.run_tokens.specs.Notes.{Progress, SameProgress, served_one, is_some, Call, Pause, Reply, Go, Half, Ask, Asking, Post, letter, Turn, Body, context, fresh, Called, Running, Waiting, Slot, Local}
 use Rattle.run_tokens.specs.Spots.{Spot}
 use Rattle.run_tokens.specs.Home.{UnsentFor, First, Last, last, done_of, value_of, to_poke, both, pokes, born_at}
 use Rattle.run_tokens.specs.Does.{Does, ServedBy, EnabledHere, Ordered, Feeds, Makes, Quantum, InUse, Loaded, CanMove, NoneRuns, HalfDueTo, seen, Talks, hosts, holds, pokes_of}
@@ -22,21 +22,22 @@ use Rattle.run_tokens.proofs.Stand.{Stands, Path}
 use Rattle.run_laws.specs.Going.{Able}
 use Rattle.run_laws.proofs.Here.{can_run, loaded, in_use, can_move}
 use Rattle.run_laws.proofs.Sleeps.{Sleeps, Since, path_sleeps}
+use Rattle.run_tokens.proofs.Progress.{itself}
 
 module _ (O : Ops) (S : Sound O) where
-  -- the last line that was carried out stands before the next one
+  -- the least line that may come next is the one after the last that was carried out
   abbrev pub LineAt : Progress → Type 0
-  LineAt g = ((g.done ≡ 0) × (g.line ≡ 0)) ⊎ ((k : ℕ) × (s : ScriptLine) × (g.done ≡ suc k) × (slice_get O.script k ≡ Some s) × (g.line ≡ s.line))
+  LineAt g = ((g.done ≡ 0) × (g.line ≡ 0)) ⊎ ((k : ℕ) × (s : ScriptLine) × (g.done ≡ suc k) × (slice_get O.script k ≡ Some s) × (g.line ≡ s.line + 1))
 
   line_same : (g h : Progress) → h ≡ g → LineAt g → LineAt h
   line_same g h e x = subst LineAt (sym e) x
 
-  line_served : (p : ℕ) (g h : Progress) → h ≡ served_one p g → LineAt g → LineAt h
-  line_served p g h e (inl x) = inl (ap (λ (k : Progress). k.done) e ∙ x.0, ap (λ (k : Progress). k.line) e ∙ x.1)
-  line_served p g h e (inr (k, s, x, y, z)) = inr (k, s, ap (λ (k : Progress). k.done) e ∙ x, y, ap (λ (k : Progress). k.line) e ∙ z)
+  line_served : (p : ℕ) (g h : Progress) → SameProgress h (served_one p g) → LineAt g → LineAt h
+  line_served p g h e (inl x) = inl (e.done ∙ x.0, e.line ∙ x.1)
+  line_served p g h e (inr (k, s, x, y, z)) = inr (k, s, e.done ∙ x, y, e.line ∙ z)
 
   line_ordered : (line : ℕ) (o : Order) (ps : List ℕ) (old new : Local O) → Ordered O line o ps old new → LineAt new.progress
-  line_ordered line o ps old new d = inr (old.progress.done, record { line = line; order = o }, ap (λ (k : Progress). k.done) d.is ∙ omega arith, d.next, ap (λ (k : Progress). k.line) d.is)
+  line_ordered line o ps old new d = inr (old.progress.done, record { line = line; order = o }, d.is.done ∙ omega arith, d.next, d.is.line)
 
   module _ (n : ℕ) (old : Local O) (t : Turn O) (new : Local O) where
     served_line : (manner : Manner) (p : ℕ) (number : Option ℕ) (value : Option ℤ) (child signal : Option ℕ) (ends : Option End) (more : Bool) (poked : List ℕ) → ServedBy O manner n p number value child signal ends more poked old t new → LineAt old.progress → LineAt new.progress
@@ -88,8 +89,8 @@ module _ (O : Ops) (S : Sound O) where
   path_line [] sp w r = subst LineAt (sym ((r.0.nodes 0).home refl).progress) (inl (refl, refl))
   path_line (t ∷ h) sp v r = home_line r.0 t v r.4.goes (path_line h r.1 r.0 r.2)
 
-  rises : (A : Able O) (g : Progress) (s : ScriptLine) → LineAt g → slice_get O.script g.done ≡ Some s → g.line < s.line
-  rises A g s (inl x) e = let z = A.first s (ap (slice_get O.script) (sym x.0) ∙ e) in omega (arith, z, x.1)
+  rises : (A : Able O) (g : Progress) (s : ScriptLine) → LineAt g → slice_get O.script g.done ≡ Some s → g.line ≤ s.line
+  rises A g s (inl x) e = omega (arith, x.1)
   rises A g s (inr (k, a, x, y, l)) e = let z = A.rising k a s y (ap (slice_get O.script) (sym x) ∙ e) in omega (arith, z, l)
 
   -- a quantum of steps
@@ -179,12 +180,12 @@ module _ (O : Ops) (S : Sound O) where
       did_made : (d : Acted O.Kernel O.Answer) → O.serve old.kernel p r ≡ Some d → Made
       did_made d e = let f : First O = record { kernel = d.kernel; answer = Some d.answer; child = d.child; raised = d.raised } in
           makes (served Did f) (letters f) (after f) refl
-          (inr (record { home = home; from = from; request = r; was = was; first = f; acts = (d, e, some, refl); answers = record { kernel = refl; value_is = refl; child_is = refl; signal_is = refl; end_is = refl; more_is = refl }; number_is = refl; tells = refl; base = record { took = refl; posts = refl; slots = λ q. refl }; gossip = refl; believed = λ q. refl; progress = refl }))
+          (inr (record { home = home; from = from; request = r; was = was; first = f; acts = (d, e, some, refl); answers = record { kernel = refl; value_is = refl; child_is = refl; signal_is = refl; end_is = refl; more_is = refl }; number_is = refl; tells = refl; base = record { took = refl; posts = refl; slots = λ q. refl }; gossip = refl; believed = λ q. refl; progress = itself _ }))
 
       broke_made : (s : ℕ) → O.lowest old.kernel p ≡ Some s → O.serve old.kernel p r ≡ None → Made
       broke_made s low e = let f : First O = record { kernel = old.kernel; answer = Some O.broken; child = None; raised = None } in
           makes (served Broke f) (letters f) (after f) refl
-          (inr (record { home = home; from = from; request = r; was = was; first = f; acts = (s, low, e, some, refl); answers = record { kernel = refl; value_is = refl; child_is = refl; signal_is = refl; end_is = refl; more_is = refl }; number_is = refl; tells = refl; base = record { took = refl; posts = refl; slots = λ q. refl }; gossip = refl; believed = λ q. refl; progress = refl }))
+          (inr (record { home = home; from = from; request = r; was = was; first = f; acts = (s, low, e, some, refl); answers = record { kernel = refl; value_is = refl; child_is = refl; signal_is = refl; end_is = refl; more_is = refl }; number_is = refl; tells = refl; base = record { took = refl; posts = refl; slots = λ q. refl }; gossip = refl; believed = λ q. refl; progress = itself _ }))
 
       retry_made : (O.serve old.kernel p r ≢ None) ⊎ (O.lowest old.kernel p ≢ None) → Made
       retry_made ready = by_serve (O.serve old.kernel p r) refl
@@ -198,23 +199,23 @@ module _ (O : Ops) (S : Sound O) where
           by_serve (Some d) e = did_made d e
 
     -- the next line is carried out
-    module _ (home : n ≡ 0) (line : ℕ) (higher : old.progress.line < line) where
+    module _ (home : n ≡ 0) (line : ℕ) (higher : old.progress.line ≤ line) where
       abbrev further : List ℕ → Progress
-      further ps = record { line = line; done = old.progress.done + 1; launched = ps; served = old.progress.served }
+      further ps = record { line = line + 1; done = old.progress.done + 1; launched = ps; served = old.progress.served }
 
       abbrev Next : Order → Type 0
       Next o = (slice_get O.script old.progress.done ≡ Some (record { line = line; order = o })) × EnabledHere O o old
 
       other_made : (o : Order) (input : Input) → Next o → has_text O input ≡ true → Feeds O input o → Made
       other_made o input x text suits = makes (Other line input) [] (record { clock = old.clock + 1; kernel = typed O input old.kernel; slots = old.slots; believed = old.believed; progress = further old.progress.launched; gossip = old.gossip }) refl
-          (record { home = home; text = text; kernel = refl; base = record { took = refl; posts = refl; slots = λ q. sym (Rattle.run_tokens.proofs.Process.cond_same (q == 0) (old.slots q)) }; gossip = refl; believed = λ q. refl; what = o; suits = suits; order = record { next = x.0; enabled = x.1; rises = higher; is = refl } })
+          (record { home = home; text = text; kernel = refl; base = record { took = refl; posts = refl; slots = λ q. sym (Rattle.run_tokens.proofs.Process.cond_same (q == 0) (old.slots q)) }; gossip = refl; believed = λ q. refl; what = o; suits = suits; order = record { next = x.0; enabled = x.1; rises = higher; is = itself _ } })
 
       move_made : (p to : ℕ) → Next (order.Move p to) → Made
       move_made p to x = by_live (O.live old.kernel p) refl
         where
           unsent : (never : Bool) → UnsentFor O never old.kernel p → Made
           unsent never why = makes (Unsent line p never) [] (record { clock = old.clock + 1; kernel = old.kernel; slots = old.slots; believed = old.believed; progress = further old.progress.launched; gossip = old.gossip }) refl
-              (record { home = home; why = why; base = record { took = refl; posts = refl; slots = λ q. sym (Rattle.run_tokens.proofs.Process.cond_same (q == p) (old.slots q)) }; kernel = refl; gossip = refl; believed = λ q. refl; to = to; order = record { next = x.0; enabled = x.1; rises = higher; is = refl } })
+              (record { home = home; why = why; base = record { took = refl; posts = refl; slots = λ q. sym (Rattle.run_tokens.proofs.Process.cond_same (q == p) (old.slots q)) }; kernel = refl; gossip = refl; believed = λ q. refl; to = to; order = record { next = x.0; enabled = x.1; rises = higher; is = itself _ } })
 
           by_given : O.live old.kernel p ≡ false → ((leb 1 p ≡ true) × (1 ≤ p)) ⊎ ((leb 1 p ≡ false) × (p < 1)) → ((leb p (O.count old.kernel) ≡ true) × (p ≤ O.count old.kernel)) ⊎ ((leb p (O.count old.kernel) ≡ false) × (O.count old.kernel < p)) → Made
           by_given dead (inl a) (inl b) = unsent false (record { given = (a.1, b.1); dead = dead })
@@ -223,7 +224,7 @@ module _ (O : Ops) (S : Sound O) where
 
           by_live : (b : Bool) → O.live old.kernel p ≡ b → Made
           by_live true e = makes (Bid line p to) (letter O 0 (old.believed p).place (old.clock + 1) (Go p to (old.believed p).hops line) ∷ []) (record { clock = old.clock + 1; kernel = old.kernel; slots = old.slots; believed = old.believed; progress = further old.progress.launched; gossip = old.gossip }) refl
-              (record { home = home; live = e; base = record { took = refl; posts = refl; slots = λ q. sym (Rattle.run_tokens.proofs.Process.cond_same (q == p) (old.slots q)) }; kernel = refl; gossip = refl; believed = λ q. refl; order = record { next = x.0; enabled = x.1; rises = higher; is = refl } })
+              (record { home = home; live = e; base = record { took = refl; posts = refl; slots = λ q. sym (Rattle.run_tokens.proofs.Process.cond_same (q == p) (old.slots q)) }; kernel = refl; gossip = refl; believed = λ q. refl; order = record { next = x.0; enabled = x.1; rises = higher; is = itself _ } })
           by_live false e = by_given e (leb_tells 1 p) (leb_tells p (O.count old.kernel))
 
       kill_made : (p s : ℕ) → Next (order.Kill p s) → Made
@@ -231,7 +232,7 @@ module _ (O : Ops) (S : Sound O) where
           let kernel : O.Kernel = O.raise old.kernel p s in
           let poked : List ℕ = both (to_poke O kernel old.slots (cond (O.hit old.kernel p s) (Some p) None)) None in
           makes (Kill line p s poked) (pokes O (old.clock + 1) old.believed poked) (record { clock = old.clock + 1; kernel = kernel; slots = old.slots; believed = old.believed; progress = further old.progress.launched; gossip = old.gossip }) refl
-          (record { home = home; signal_is = A.signal old.progress.done _ x.0 p s refl; kernel = refl; tells = refl; base = record { took = refl; posts = refl; slots = λ q. sym (Rattle.run_tokens.proofs.Process.cond_same (q == p) (old.slots q)) }; gossip = refl; believed = λ q. refl; order = record { next = x.0; enabled = x.1; rises = higher; is = refl } })
+          (record { home = home; signal_is = A.signal old.progress.done _ x.0 p s refl; kernel = refl; tells = refl; base = record { took = refl; posts = refl; slots = λ q. sym (Rattle.run_tokens.proofs.Process.cond_same (q == p) (old.slots q)) }; gossip = refl; believed = λ q. refl; order = record { next = x.0; enabled = x.1; rises = higher; is = itself _ } })
 
       run_line : (words : List (List ℕ)) → Next (order.Run words) → Made
       run_line words x =
@@ -239,7 +240,7 @@ module _ (O : Ops) (S : Sound O) where
           let p : ℕ = O.count old.kernel + 1 in
           let i : ℕ = runs_before line O.script in
           makes (Run line i p) [] (record { clock = old.clock + 1; kernel = l.0; slots = put p (hosts O (Some (context O (fresh O (O.loaded i p)) Running))); believed = λ q. cond (q == p) (record { place = 0; hops = 0 }) (old.believed q); progress = further (p ∷ old.progress.launched); gossip = old.gossip }) refl
-          (record { home = home; image = A.image old.progress.done _ x.0 words refl; launched = l.1; next = refl; base = record { took = refl; posts = refl; slots = λ q. refl }; gossip = refl; believed = λ q. refl; words = words; order = record { next = x.0; enabled = x.1; rises = higher; is = refl } })
+          (record { home = home; image = A.image old.progress.done _ x.0 words refl; launched = l.1; next = refl; base = record { took = refl; posts = refl; slots = λ q. refl }; gossip = refl; believed = λ q. refl; words = words; order = record { next = x.0; enabled = x.1; rises = higher; is = itself _ } })
 
       line_made : (o : Order) → Next o → Made
       line_made (order.Run words) x = run_line words x

@@ -200,7 +200,7 @@ module _ (O : Ops) (S : Sound O) where
       grounded_at : (what : Deed) → t.event.what ≡ what → Does O what n (w.nodes n) t (v.nodes n) → Needs O what n (w.nodes n) (v.nodes n) (sp (pid_of what)) st.own → GroundedAt O what n es m
       grounded_at (Run line i p) is d need = tt
       grounded_at (Kill line p g poked) is d need = tt
-      grounded_at (Bid line p to) is d need = tt
+      grounded_at (Bid line p to) is d need = ap (λ (k : O.Kernel). O.live k p) (sym (kernel_at need.is.why.0)) ∙ need.is.why.1
       grounded_at (Unsent line p never) is d need = subst (λ (k : O.Kernel). UnsentFor O never k p) (kernel_at need.is.why.0) need.is.why.1
       grounded_at (Other line input) is d need = tt
       grounded_at (Steps p k) is d need = tt

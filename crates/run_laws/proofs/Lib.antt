@@ -54,3 +54,4 @@ pub mod Here
 pub mod Exchanged
 pub mod GossipLaws
 pub mod HonestVectors
+pub mod GossipStories

@@ -193,7 +193,7 @@ module _ (O : Ops) (S : Sound O) where
     order_asked line x to is d = sends (Bid line x to) line is (λ l i ne y. pick_false (line == l) _ _ (other_numbers line l (λ z. ne (sym z))) y) none _ d.base.posts (here, tt)
       where
         fresh : ln.errands line ≡ Untried
-        fresh = ln.untried line (subst (λ (k : ℕ). (w.nodes k).progress.line < line) d.home d.order.rises)
+        fresh = ln.untried line (subst (λ (k : ℕ). (w.nodes k).progress.line ≤ line) d.home d.order.rises)
 
         none : (a b : ℕ) → words O (of_line O line) (goes.rest a b) ≡ []
         none a b = sym (ap (words O (of_line O line)) (goes.takes a b ∙ ap (λ (o : Option (Post O)). at_front O o a b ++ goes.rest a b) d.base.took)) ∙ (ln.under line a b ∙ ap (λ (e : Errand). Rattle.run_tokens.proofs.Talk.on_link O (errand_way O line e) a b) fresh)

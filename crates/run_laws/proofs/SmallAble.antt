@@ -34,7 +34,6 @@ two = record { line = 2; order = order.Move 1 1 }
 
 pub mover_able : Able mover
 mover_able = record {
-  first = λ s e. (let same : one ≡ s = cc in subst (λ (x : ScriptLine). 1 ≤ x.line) same (omega arith));
   rising = rising;
   image = image;
   text = text;

@@ -3,11 +3,12 @@ use Rattle.std.proofs.Common.{arith, ◌≡◌, ◌<◌, ◌≤◌, ◌≢◌, �
 use Rattle.std.specs.Prelude.{ℤ, nat_lt, slice_get}
 use Rattle.std.proofs.lemmas.Bool.Decides.{nat_tests}
 use Rattle.call_table.specs.declared.process.End.{End}
+use Rattle.call_table.specs.declared.process.End.TheVariants as end
 use Rattle.node_event.specs.declared.script.ScriptLine.{ScriptLine}
 use Rattle.run_tokens.specs.Ops.{Sound, IsMove, Acted, is_child, counted}
 use Rattle.run_tokens.specs.Gossip.{Sight, Choice, IsKnown, IsMovable}
 use Rattle.run_tokens.specs.Deeds.{order_at}
-use Rattle.run_laws.specs.SmallMachine.{Request, ExitCall, ForkCall, ReadCall, WriteCall, KillCall, FaultAt, Thing, Program, Table, grown, gone, with_todo, living, launch_by, fork_by, hit_by, raised_at, served_by, signal_or, taken_by, no_choice, small_of, small, end_by}
+use Rattle.run_laws.specs.SmallMachine.{Request, ExitCall, ForkCall, ReadCall, WriteCall, KillCall, FaultAt, Thing, Program, Table, grown, ended, gone, with_todo, living, launch_by, fork_by, hit_by, raised_at, served_by, signal_or, taken_by, no_choice, small_of, small, end_by}
 use Rattle.run_tokens.proofs.Talk.{same_numbers}
 use Rattle.run_tokens.proofs.Process.{cond_here, cond_off}
 
@@ -44,10 +45,10 @@ lowest_alive true o s e = refl
 lowest_alive false o s e = absurd cc
 
 serve_count : (k : Table) (p : ℕ) (r : Request) (d : Acted Table ℤ) → served_by k p r ≡ Some d → d.kernel.count ≡ counted d.child k.count
-serve_count k p (ExitCall code) d e = let x = some_acted _ d e in ap (λ (z : Acted Table ℤ). z.kernel.count) (sym x) ∙ ap (λ (z : Acted Table ℤ). counted z.child k.count) x
+serve_count k p (ExitCall code) d e = let x = some_acted _ d e in ap (λ (z : Acted Table ℤ). z.kernel.count) (sym x) ∙ (raised_count ((ended p (end.Exit code) k).alive (k.parent p)) (k.parent p) 17 (ended p (end.Exit code) k) ∙ ap (λ (z : Acted Table ℤ). counted z.child k.count) x)
 serve_count k p ForkCall d e = go (nat_lt (living k) 64) e
   where
-    go : (b : Bool) → Some (fork_by b k) ≡ Some d → d.kernel.count ≡ counted d.child k.count
+    go : (b : Bool) → Some (fork_by b p k) ≡ Some d → d.kernel.count ≡ counted d.child k.count
     go true e = let x = some_acted _ d e in ap (λ (z : Acted Table ℤ). z.kernel.count) (sym x) ∙ ap (λ (z : Acted Table ℤ). counted z.child k.count) x
     go false e = let x = some_acted _ d e in ap (λ (z : Acted Table ℤ). z.kernel.count) (sym x) ∙ ap (λ (z : Acted Table ℤ). counted z.child k.count) x
 serve_count k p ReadCall d e = absurd cc
@@ -59,7 +60,7 @@ serve_child : (k : Table) (p : ℕ) (r : Request) (d : Acted Table ℤ) (c : ℕ
 serve_child k p (ExitCall code) d c e f = let z : None ≡ Some c = ap (λ (z : Acted Table ℤ). z.child) (some_acted _ d e) ∙ f in absurd cc
 serve_child k p ForkCall d c e f = go (nat_lt (living k) 64) e
   where
-    go : (b : Bool) → Some (fork_by b k) ≡ Some d → c ≡ k.count + 1
+    go : (b : Bool) → Some (fork_by b p k) ≡ Some d → c ≡ k.count + 1
     go true e = sym (some_child (k.count + 1) c (ap (λ (z : Acted Table ℤ). z.child) (some_acted _ d e) ∙ f))
     go false e = let z : None ≡ Some c = ap (λ (z : Acted Table ℤ). z.child) (some_acted _ d e) ∙ f in absurd cc
 serve_child k p ReadCall d c e f = absurd cc
@@ -68,10 +69,10 @@ serve_child k p (KillCall q s) d c e f = let z : None ≡ Some c = ap (λ (z : A
 serve_child k p (FaultAt s) d c e f = absurd cc
 
 serve_alive : (k : Table) (p : ℕ) (r : Request) (d : Acted Table ℤ) (q : ℕ) → served_by k p r ≡ Some d → q ≢ p → is_child d.child q ≡ false → d.kernel.alive q ≡ k.alive q
-serve_alive k p (ExitCall code) d q e ne h = ap (λ (z : Acted Table ℤ). z.kernel.alive q) (sym (some_acted _ d e)) ∙ cond_off q p false (k.alive q) ne
+serve_alive k p (ExitCall code) d q e ne h = ap (λ (z : Acted Table ℤ). z.kernel.alive q) (sym (some_acted _ d e)) ∙ (raised_alive ((ended p (end.Exit code) k).alive (k.parent p)) (k.parent p) 17 q (ended p (end.Exit code) k) ∙ cond_off q p false (k.alive q) ne)
 serve_alive k p ForkCall d q e ne h = go (nat_lt (living k) 64) e
   where
-    go : (b : Bool) → Some (fork_by b k) ≡ Some d → d.kernel.alive q ≡ k.alive q
+    go : (b : Bool) → Some (fork_by b p k) ≡ Some d → d.kernel.alive q ≡ k.alive q
     go true e = ap (λ (z : Acted Table ℤ). z.kernel.alive q) (sym (some_acted _ d e)) ∙ cond_off q (k.count + 1) true (k.alive q) (child_apart (k.count + 1) q (ap (λ (z : Acted Table ℤ). is_child z.child q) (some_acted _ d e) ∙ h))
     go false e = ap (λ (z : Acted Table ℤ). z.kernel.alive q) (sym (some_acted _ d e))
 serve_alive k p ReadCall d q e ne h = absurd cc
@@ -83,7 +84,7 @@ serve_born : (k : Table) (p : ℕ) (r : Request) (d : Acted Table ℤ) (c : ℕ)
 serve_born k p (ExitCall code) d c e f = let z : None ≡ Some c = ap (λ (z : Acted Table ℤ). z.child) (some_acted _ d e) ∙ f in absurd cc
 serve_born k p ForkCall d c e f = go (nat_lt (living k) 64) e
   where
-    go : (b : Bool) → Some (fork_by b k) ≡ Some d → d.kernel.alive c ≡ true
+    go : (b : Bool) → Some (fork_by b p k) ≡ Some d → d.kernel.alive c ≡ true
     go true e =
         let same : k.count + 1 ≡ c = some_child (k.count + 1) c (ap (λ (z : Acted Table ℤ). z.child) (some_acted _ d e) ∙ f) in
         ap (λ (z : Acted Table ℤ). z.kernel.alive c) (sym (some_acted _ d e)) ∙ (ap (λ (x : ℕ). cond (x == k.count + 1) true (k.alive x)) (sym same) ∙ cond_here (k.count + 1) true (k.alive (k.count + 1)))
@@ -104,7 +105,7 @@ serve_few : (k : Table) (p : ℕ) (r : Request) (d : Acted Table ℤ) (c : ℕ) 
 serve_few k p (ExitCall code) d c e f = let z : None ≡ Some c = ap (λ (z : Acted Table ℤ). z.child) (some_acted _ d e) ∙ f in absurd cc
 serve_few k p ForkCall d c e f = go (nat_lt (living k) 64) refl e
   where
-    go : (b : Bool) → nat_lt (living k) 64 ≡ b → Some (fork_by b k) ≡ Some d → living k < 64
+    go : (b : Bool) → nat_lt (living k) 64 ≡ b → Some (fork_by b p k) ≡ Some d → living k < 64
     go true is e = lt_tells (living k) 64 is
     go false is e = let z : None ≡ Some c = ap (λ (z : Acted Table ℤ). z.child) (some_acted _ d e) ∙ f in absurd cc
 serve_few k p ReadCall d c e f = absurd cc
@@ -138,10 +139,13 @@ hit_cond true p q = refl
 hit_cond false p q = refl
 
 serve_quiet : (k : Table) (p : ℕ) (r : Request) (d : Acted Table ℤ) (q : ℕ) → served_by k p r ≡ Some d → q ≢ p → is_child d.child q ≡ false → is_child d.raised q ≡ false → cond (d.kernel.alive q) (d.kernel.pending q) None ≡ cond (k.alive q) (k.pending q) None
-serve_quiet k p (ExitCall code) d q e ne h g = ap (λ (z : Acted Table ℤ). cond (z.kernel.alive q) (z.kernel.pending q) None) (sym (some_acted _ d e)) ∙ ap (λ (b : Bool). cond b (k.pending q) None) (cond_off q p false (k.alive q) ne)
+serve_quiet k p (ExitCall code) d q e ne h g =
+    let gone : Table = ended p (end.Exit code) k in
+    ap (λ (z : Acted Table ℤ). cond (z.kernel.alive q) (z.kernel.pending q) None) (sym (some_acted _ d e))
+    ∙ (raise_quiet (gone.alive (k.parent p)) gone (k.parent p) 17 q (sym (hit_cond (gone.alive (k.parent p)) (k.parent p) q) ∙ (ap (λ (z : Acted Table ℤ). is_child z.raised q) (some_acted _ d e) ∙ g)) ∙ ap (λ (b : Bool). cond b (k.pending q) None) (cond_off q p false (k.alive q) ne))
 serve_quiet k p ForkCall d q e ne h g = go (nat_lt (living k) 64) e
   where
-    go : (b : Bool) → Some (fork_by b k) ≡ Some d → cond (d.kernel.alive q) (d.kernel.pending q) None ≡ cond (k.alive q) (k.pending q) None
+    go : (b : Bool) → Some (fork_by b p k) ≡ Some d → cond (d.kernel.alive q) (d.kernel.pending q) None ≡ cond (k.alive q) (k.pending q) None
     go true e = ap (λ (z : Acted Table ℤ). cond (z.kernel.alive q) (z.kernel.pending q) None) (sym (some_acted _ d e)) ∙ ap (λ (b : Bool). cond b (k.pending q) None) (cond_off q (k.count + 1) true (k.alive q) (not_child (k.count + 1) q (ap (λ (z : Acted Table ℤ). is_child z.child q) (some_acted _ d e) ∙ h)))
     go false e = ap (λ (z : Acted Table ℤ). cond (z.kernel.alive q) (z.kernel.pending q) None) (sym (some_acted _ d e))
 serve_quiet k p ReadCall d q e ne h g = absurd cc

@@ -17,6 +17,7 @@ use Rattle.run_tokens.proofs.Stand.{EachBound, Stands, Path}
 use Rattle.run_tokens.specs.Gossip.{Entry, Gossip, Choice, Movable, gossip_after}
 use Rattle.run_laws.proofs.Here.{can_run, loaded, in_use, can_move}
 use Rattle.run_laws.proofs.Near.{far_to}
+use Rattle.run_tokens.proofs.Progress.{itself}
 
 module _ (O : Ops) (S : Sound O) where
   -- a letter lies on the link from its sender to its target
@@ -88,18 +89,18 @@ module _ (O : Ops) (S : Sound O) where
               (record { home = home; from = from; stamp = stamp; request = r; number_is = refl; some = some; blocks = e; quiet = low; base = record { took = refl; posts = refl; slots = λ q. refl }; still = record { kernel = refl; believed = λ q. refl; progress = refl; gossip = refl } })
           quiet some e (Some s) low = let f : First O = record { kernel = old.kernel; answer = Some O.broken; child = None; raised = None } in
               makes (Call p r) (served Broke f) (letters f) (after f) refl
-              (inl (record { home = home; from = from; stamp = stamp; request = r; first = f; acts = (s, low, e, some, refl); answers = record { kernel = refl; value_is = refl; child_is = refl; signal_is = refl; end_is = refl; more_is = refl }; number_is = refl; tells = refl; base = record { took = refl; posts = refl; slots = λ q. sym (cond_same (q == p) (old.slots q)) }; gossip = refl; believed = λ q. refl; progress = refl }))
+              (inl (record { home = home; from = from; stamp = stamp; request = r; first = f; acts = (s, low, e, some, refl); answers = record { kernel = refl; value_is = refl; child_is = refl; signal_is = refl; end_is = refl; more_is = refl }; number_is = refl; tells = refl; base = record { took = refl; posts = refl; slots = λ q. sym (cond_same (q == p) (old.slots q)) }; gossip = refl; believed = λ q. refl; progress = itself _ }))
 
           by_serve : O.number r ≢ 0 → (o : Option (Acted O.Kernel O.Answer)) → O.serve old.kernel p r ≡ o → Made (Call p r)
           by_serve some None e = quiet some e (O.lowest old.kernel p) refl
           by_serve some (Some d) e = let f : First O = record { kernel = d.kernel; answer = Some d.answer; child = d.child; raised = d.raised } in
               makes (Call p r) (served Did f) (letters f) (after f) refl
-              (inl (record { home = home; from = from; stamp = stamp; request = r; first = f; acts = (d, e, some, refl); answers = record { kernel = refl; value_is = refl; child_is = refl; signal_is = refl; end_is = refl; more_is = refl }; number_is = refl; tells = refl; base = record { took = refl; posts = refl; slots = λ q. sym (cond_same (q == p) (old.slots q)) }; gossip = refl; believed = λ q. refl; progress = refl }))
+              (inl (record { home = home; from = from; stamp = stamp; request = r; first = f; acts = (d, e, some, refl); answers = record { kernel = refl; value_is = refl; child_is = refl; signal_is = refl; end_is = refl; more_is = refl }; number_is = refl; tells = refl; base = record { took = refl; posts = refl; slots = λ q. sym (cond_same (q == p) (old.slots q)) }; gossip = refl; believed = λ q. refl; progress = itself _ }))
 
           by_number : (b : Bool) → (O.number r == 0) ≡ b → Made (Call p r)
           by_number true e = let f : First O = record { kernel = (O.fall old.kernel p r).kernel; answer = None; child = None; raised = (O.fall old.kernel p r).raised } in
               makes (Call p r) (served Fell f) (letters f) (after f) refl
-              (record { home = home; from = from; stamp = stamp; request = r; first = f; acts = (numbers_same (O.number r) 0 e, refl); answers = record { kernel = refl; value_is = refl; child_is = refl; signal_is = refl; end_is = refl; more_is = refl }; number_is = refl; tells = refl; base = record { took = refl; posts = refl; slots = λ q. sym (cond_same (q == p) (old.slots q)) }; gossip = refl; believed = λ q. refl; progress = refl })
+              (record { home = home; from = from; stamp = stamp; request = r; first = f; acts = (numbers_same (O.number r) 0 e, refl); answers = record { kernel = refl; value_is = refl; child_is = refl; signal_is = refl; end_is = refl; more_is = refl }; number_is = refl; tells = refl; base = record { took = refl; posts = refl; slots = λ q. sym (cond_same (q == p) (old.slots q)) }; gossip = refl; believed = λ q. refl; progress = itself _ })
           by_number false e = by_serve (numbers_other (O.number r) 0 e) (O.serve old.kernel p r) refl
 
     -- Pause

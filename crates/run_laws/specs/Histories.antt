@@ -64,7 +64,7 @@ twice_events =
     ∷ at 4 0 (what.Served 1 way.Did (Some 9) (Some (pos 3)) None None false None None)
     ∷ []
 
--- a program that forks and exits, and its child too
+-- a program that forks, and its child, which exits: its parent gets a signal, and is poked
 abbrev pub fork_script : List ScriptLine
 fork_script = line 1 (order.Run []) ∷ []
 
@@ -78,7 +78,7 @@ fork_events =
     ∷ at 3 0 (what.Served 1 way.Did (Some 4) (Some (pos 2)) None None false None None)
     ∷ at 4 0 (what.Got 1 (Some 2) false None None)
     ∷ at 5 0 (what.Sent 2 1)
-    ∷ at 6 0 (what.Served 2 way.Did (Some 1) (Some (pos 0)) None (Some (end.Exit 7)) false None None)
+    ∷ at 6 0 (what.Served 2 way.Did (Some 1) (Some (pos 0)) None (Some (end.Exit 7)) false (Some 1) None)
     ∷ at 7 0 (what.Got 2 None true None None)
     ∷ []
 

@@ -35,3 +35,4 @@ pub mod Vectors
 pub mod GossipLaw
 pub mod ChoiceLaw
 pub mod Honest
+pub mod GossipStories

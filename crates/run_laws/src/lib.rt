@@ -17,6 +17,8 @@ ghost use Rattle.run_laws.specs.Due.{Same, Untaken};
 ghost use Rattle.run_laws.specs.Going.{Able};
 ghost use Rattle.run_laws.specs.Ending.{Ending};
 ghost use Rattle.run_laws.specs.EndStories.{hello_ends, reader_ends, keeper_ends, reached_goes_on, one_event_full, context_before, reader, reader_script, reader_events, keeper, keeper_script, keeper_events};
+ghost use Rattle.run_laws.specs.Honest.{Honest};
+ghost use Rattle.run_laws.specs.GossipStories.{pusher, push_events, heavy, denied_events, unchosen_events, unsent_events, invented, three, wrong_events, walker, walk_events, faulter, fault_events, valued_events, unpoked_events, loose_not_over};
 ghost use Rattle.run_laws.specs.Carried.{Did, Sorted, own_events, shown, CarriedRun};
 ghost use Rattle.run_laws.specs.Histories.{read, left_out, hello_script, hello, hello_events, writer, twice_events, fork_script, forker, fork_events, move_script, mover, move_events, first_events, copy_events, refused_events, again_events, break_script, breaker, break_events, left_events, poke_script, poker, poke_events, unheeded_events};
 
@@ -79,18 +81,25 @@ pub fn runs_exist()
 {}
 
 /// Lawful are: the nine events of a program that writes and exits, a fork, a move from its asking to its landing, a held call that a signal
-/// breaks, and a poke that is heeded.
+/// breaks, and a poke that is heeded; a half that a node sends and home hears, with a choice that begins a move, up to its landing; and such a move that is
+/// denied, on good grounds.
 pub fn lawful_histories()
     ensures hello { Lawful hello (read hello_script hello_events) }
     ensures fork { Lawful forker (read fork_script fork_events) }
     ensures moved { Lawful mover (read move_script move_events) }
     ensures broken { Lawful breaker (read break_script break_events) }
     ensures heeded { Lawful poker (read poke_script poke_events) }
+    ensures chosen { Lawful pusher (read hello_script push_events) }
+    ensures denied { Lawful heavy (read hello_script denied_events) }
+    ensures grounds { Grounded heavy (read hello_script denied_events) }
 {}
 
 /// Not lawful are: the nine events with one of the first eight left out, a call that is served twice, steps at the source after a `depart`, a
 /// `served` that leaves a deliverable signal, steps after a poke that was used and not heeded. A refusal for a move under way has no grounds where
 /// there is none, and a line that is refused after its move has landed has two outcomes.
+/// Nor are: a choice that the policy does not give, a half that is heard and was not sent, a first half that is not to the first other node, a 17th quantum
+/// of steps without a half, a fault that is held, a pause that is served with a value, the exit of a child whose parent is not poked. An entry that its node
+/// never told is not honest; and a run is not done while a move line has no outcome.
 pub fn unlawful_histories()
     ensures left_out { (k : ℕ) → k < 8 → Lawful hello (read hello_script (left_out k hello_events)) → ⊥ }
     ensures twice { Lawful writer (read hello_script twice_events) → ⊥ }
@@ -99,4 +108,13 @@ pub fn unlawful_histories()
     ensures unheeded { Lawful poker (read poke_script unheeded_events) → ⊥ }
     ensures groundless { Grounded mover (read move_script refused_events) → ⊥ }
     ensures two_outcomes { outcomes 2 (read move_script again_events) ≤ 1 → ⊥ }
+    ensures unchosen { Lawful pusher (read hello_script unchosen_events) → ⊥ }
+    ensures unsent { Lawful pusher (read hello_script unsent_events) → ⊥ }
+    ensures invented { Honest pusher invented (read hello_script push_events) → ⊥ }
+    ensures wrong { Lawful three (read hello_script wrong_events) → ⊥ }
+    ensures walked { Lawful walker (read hello_script walk_events) → ⊥ }
+    ensures fault { Lawful faulter (read hello_script fault_events) → ⊥ }
+    ensures valued { Lawful poker (read poke_script valued_events) → ⊥ }
+    ensures unpoked { Lawful forker (read fork_script unpoked_events) → ⊥ }
+    ensures loose { loose_not_over }
 {}

@@ -9,3 +9,4 @@ pub mod Sums
 pub mod Stand
 pub mod Places
 pub mod Talking
+pub mod Progress

@@ -6,7 +6,7 @@ use Rattle.node_event.specs.declared.script.Order.{Order}
 use Rattle.node_event.specs.declared.script.Order.TheVariants as order
 use Rattle.run_tokens.specs.Gossip.{Entry, Gossip, FarPlaces, one_step, told_places, renewed, gossip_after, known_below, other_at, listed_below, Movable, Sight, Choice}
 use Rattle.run_tokens.specs.Deeds.{Input, Text, Finish, Nothing, Manner, Did, Broke, Fell, Paused, Why, Gone, Moving, There, KeptTold, Reason, ForLine, Chosen, line_for, Deed, Run, Kill, Bid, Unsent, Other, Steps, Sent, Heed, Held, Served, Got, Poked, Begin, Keep, Missed, Again, Allows, Denies, Depart, Stay, Land, Told, Refused, Closed, Gossips, Strange}
-use Rattle.run_tokens.specs.Notes.{served_one, Kept, State, Running, Waiting, Asking, Believed, is_some, Done, Note, Call, Pause, Reply, Poke, Half, Go, NotHere, Ask, Allow, Deny, Move, Landed, NoMove, Post, letter, Turn, Body, fresh, Context, context, Called, Slot, Local}
+use Rattle.run_tokens.specs.Notes.{SameProgress, served_one, Kept, State, Running, Waiting, Asking, Believed, is_some, Done, Note, Call, Pause, Reply, Poke, Half, Go, NotHere, Ask, Allow, Deny, Move, Landed, NoMove, Post, letter, Turn, Body, fresh, Context, context, Called, Slot, Local}
 use Rattle.run_tokens.specs.Home.{both, other_than, live_of, HasEnded, NeverGiven, UnsentFor, unheld, after, returned, First, last, Acts, done_of, to_poke, pokes, line_closed, Answers, born_at, first_none, fits_done}
 
 module _ (O : Ops) where
@@ -65,8 +65,8 @@ module _ (O : Ops) where
   pub record Ordered (line : ℕ) (what : Order) (launched : List ℕ) (old new : Local O) : Type 0 where
     pub next : slice_get O.script old.progress.done ≡ Some (record { line = line; order = what })
     pub enabled : EnabledHere what old
-    pub rises : old.progress.line < line
-    pub is : new.progress ≡ record { line = line; done = old.progress.done + 1; launched = launched; served = old.progress.served }
+    pub rises : old.progress.line ≤ line
+    pub is : SameProgress new.progress (record { line = line + 1; done = old.progress.done + 1; launched = launched; served = old.progress.served })
 
   -- the line that such an input is of
   abbrev pub Feeds : Input → Order → Type 0
@@ -295,7 +295,7 @@ module _ (O : Ops) where
     pub base : Base p None (Some (letter O from n stamp (Call p request))) (letter O n from t.event.stamp (Reply p (done_of O p first (last O first.kernel p (O.room_of request)))) ∷ pokes O t.event.stamp old.believed poked) same same old t new
     pub gossip : new.gossip ≡ old.gossip
     pub believed : (q : ℕ) → new.believed q ≡ born_at O from child old.believed q
-    pub progress : new.progress ≡ served_one p old.progress
+    pub progress : SameProgress new.progress (served_one p old.progress)
 
   -- or it was held
   pub record Retries (n p : ℕ) (manner : Manner) (number : Option ℕ) (value : Option ℤ) (child signal : Option ℕ) (ends : Option End) (more : Bool) (poked : List ℕ) (old : Local O) (t : Turn O) (new : Local O) : Type 0 where
@@ -311,7 +311,7 @@ module _ (O : Ops) where
     pub base : Base p None None (letter O n from t.event.stamp (Reply p (done_of O p first (last O first.kernel p (O.room_of request)))) ∷ pokes O t.event.stamp old.believed poked) (holds None) same old t new
     pub gossip : new.gossip ≡ old.gossip
     pub believed : (q : ℕ) → new.believed q ≡ born_at O from child old.believed q
-    pub progress : new.progress ≡ served_one p old.progress
+    pub progress : SameProgress new.progress (served_one p old.progress)
 
   pub record Pausing (n p : ℕ) (number : Option ℕ) (value : Option ℤ) (child signal : Option ℕ) (ends : Option End) (more : Bool) (poked : List ℕ) (old : Local O) (t : Turn O) (new : Local O) : Type 0 where
     pub home : n ≡ 0
