@@ -8,7 +8,7 @@ use Rattle.node_event.specs.declared.script.Order.{Order}
 use Rattle.node_event.specs.declared.script.Order.TheVariants as order
 use Rattle.node_event.specs.declared.script.ScriptLine.{ScriptLine}
 use Rattle.run_tokens.specs.Ops.{Ops, Sound, Acted, typed, has_text}
-use Rattle.run_tokens.specs.Gossip.{Entry, Gossip, one_step, Choice, Sight, Movable, renewed, told_places, gossip_after}
+use Rattle.run_tokens.specs.Gossip.{Entry, Gossip, one_step, Choice, Movable, told_places, gossip_after}
 use Rattle.run_tokens.specs.Deeds.{Chosen, runs_before, feeds_before, Input, Text, Finish, Nothing, Manner, Did, Broke, Fell, Paused, Deed, Run, Kill, Bid, Unsent, Other, Steps, Sent, Heed, Held, Served, Got, Poked, Begin, Keep, Missed, Again, Allows, Denies, Depart, Stay, Land, Told, Refused, Closed, Gossips, Strange}
 use Rattle.run_tokens.specs.Notes.{Progress, SameProgress, served_one, is_some, Call, Pause, Reply, Go, Half, Ask, Asking, Post, letter, Turn, Body, context, fresh, Called, Running, Waiting, Slot, Local}
 use Rattle.run_tokens.specs.Spots.{Spot}

@@ -1,8 +1,8 @@
 -- Each half is due and goes to another node, each that is heard was sent, and each choice is one that the policy gives.
-use Rattle.std.proofs.Common.{◌≡◌, ◌≢◌, ℕ, ◌-◌, ◌<◌, ◌≤◌, Bool, true, false, Option, List, [], ◌∷◌, ◌++◌, refl, sym, ap, ◌∙◌, subst}
+use Rattle.std.proofs.Common.{◌≡◌, ℕ, ◌<◌, true, false, Option, List, [], ◌∷◌, sym, ap, ◌∙◌, subst}
 use Rattle.run_tokens.specs.Ops.{Ops, Sound}
 use Rattle.run_tokens.specs.Gossip.{Entry, Gossip, Sight, Talk, Silent, Stepping, Talking, talk_of}
-use Rattle.run_tokens.specs.Deeds.{Noted, pid_of}
+use Rattle.run_tokens.specs.Deeds.{Noted}
 use Rattle.run_tokens.specs.Notes.{Turn}
 use Rattle.run_tokens.specs.Spots.{Spot}
 use Rattle.run_tokens.specs.Does.{NoneRuns, seen}
@@ -11,13 +11,13 @@ use Rattle.run_tokens.proofs.Stand.{Stands, Path}
 use Rattle.run_tokens.proofs.Talking.{GossipBy, gossip_by}
 use Rattle.run_laws.specs.Machine.{MachineState}
 use Rattle.run_laws.specs.Schedule.{the_machine}
-use Rattle.run_laws.specs.Vectors.{Exchange, exchanged}
+use Rattle.run_laws.specs.Vectors.{exchanged}
 use Rattle.run_laws.specs.GossipLaw.{GossipAt, GossipLaw}
 use Rattle.run_laws.specs.ChoiceLaw.{sight_of, ChoiceAt, ChoiceLaw}
 use Rattle.run_laws.proofs.HalfTargets.{target_near}
 use Rattle.run_laws.proofs.Here.{movable_told}
 use Rattle.run_laws.proofs.Resting.{none_free}
-use Rattle.run_laws.proofs.Exchanged.{due_same, halves_on, the_agrees, own_told, heard_there, path_exchanged}
+use Rattle.run_laws.proofs.Exchanged.{due_same, the_agrees, own_told, heard_there, path_exchanged}
 
 module _ (O : Ops) (S : Sound O) where
   module _ (h : List (Turn O)) (w : World O) (t : Turn O) (v : World O) (sp : ℕ → Spot O) (path : Path O S h sp w) (st : Stands O S sp w) (goes : Goes O w t v) where

@@ -2,8 +2,7 @@
 use Rattle.std.proofs.Common.{◌≡◌, ◌≢◌, ℕ, zero, suc, ◌+◌, ◌-◌, ◌%◌, ◌<◌, ◌≤◌, ◌==◌, ◌⊎◌, inl, inr, Bool, true, false, cond, Option, Some, None, List, [], ◌∷◌, ◌++◌, refl, sym, ap, ◌∙◌, subst, arith}
 use Rattle.std.specs.Prelude.{nat_lt}
 use Rattle.std.proofs.Math.Nat.{mod-lt}
-use Rattle.std.proofs.lemmas.Bool.Decides.{leb_tells, nat_tests}
-use lib.Dec.{leb}
+use Rattle.std.proofs.lemmas.Bool.Decides.{nat_tests}
 use Rattle.run_tokens.specs.Ops.{Ops, Sound}
 use Rattle.run_tokens.specs.Gossip.{Entry, Gossip, Choice, IsKnown, later, newest, one_entry, known_below, other_at}
 use Rattle.run_tokens.specs.Notes.{Turn, Local}

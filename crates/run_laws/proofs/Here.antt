@@ -1,5 +1,5 @@
 -- What a node has, counted by its own slots: it is what the events tell.
-use Rattle.std.proofs.Common.{◌≡◌, ◌≢◌, ℕ, zero, suc, ◌+◌, ◌-◌, ◌<◌, ◌≤◌, ◌==◌, ◌⊎◌, inl, inr, Bool, true, false, cond, Option, Some, None, List, [], ◌∷◌, ◌++◌, refl, sym, ap, ◌∙◌, subst, arith}
+use Rattle.std.proofs.Common.{◌≡◌, ℕ, zero, suc, ◌+◌, ◌≤◌, ◌==◌, ◌⊎◌, inl, inr, Bool, true, false, cond, Option, Some, None, List, [], ◌∷◌, ◌++◌, refl, sym, ap, ◌∙◌, subst, arith}
 use Rattle.std.proofs.lemmas.List.{append-nil}
 use Rattle.run_tokens.specs.Ops.{Ops, Sound, sum_below, one_if}
 use Rattle.run_tokens.specs.Gossip.{Movable, IsMovable, listed_below}
@@ -11,7 +11,7 @@ use Rattle.run_tokens.proofs.Process.{cond_same}
 use Rattle.run_tokens.proofs.Stand.{Stands, Path}
 use Rattle.run_laws.specs.Machine.{MachineState}
 use Rattle.run_laws.specs.Facts.{Facts, facts}
-use Rattle.run_laws.specs.Pages.{is_at, pages_of, used_pages}
+use Rattle.run_laws.specs.Pages.{is_at, used_pages}
 use Rattle.run_laws.specs.Loads.{load_at, movable_by, movable_at}
 use Rattle.run_laws.proofs.Facts.{facts_of, path_tells}
 use Rattle.run_laws.proofs.Replay.{user_of}

@@ -1,13 +1,13 @@
 -- Each entry of each vector is honest, and so is each of a half that is under way.
-use Rattle.std.proofs.Common.{◌≡◌, ◌≢◌, ℕ, zero, suc, ◌+◌, ◌-◌, ◌==◌, ◌&&◌, ◌⊎◌, inl, inr, Bool, true, false, cond, Option, Some, None, List, [], ◌∷◌, ◌++◌, refl, sym, ap, ◌∙◌, subst}
+use Rattle.std.proofs.Common.{◌≡◌, ℕ, zero, suc, ◌+◌, ◌-◌, ◌==◌, ◌&&◌, inl, inr, Bool, true, false, cond, Option, Some, None, List, [], ◌∷◌, ◌++◌, refl, sym, ap, ◌∙◌}
 use Rattle.std.proofs.lemmas.List.{append-nil}
-use Rattle.run_tokens.specs.Ops.{Ops, Sound, sum_below, one_if}
-use Rattle.run_tokens.specs.Gossip.{Entry, Gossip, no_gossip, Choice, renewed, first_places, told_places, woven, gossip_after, Talk, Silent, Stepping, Talking, talk_of}
-use Rattle.run_tokens.specs.Deeds.{Reason, ForLine, Chosen, Deed, Begin, Gossips, Noted}
+use Rattle.run_tokens.specs.Ops.{Ops, sum_below, one_if}
+use Rattle.run_tokens.specs.Gossip.{Entry, Gossip, Choice, renewed, first_places, told_places, woven, gossip_after, Talk, Silent, Stepping, Talking, talk_of}
+use Rattle.run_tokens.specs.Deeds.{Chosen, Deed, Begin, Gossips, Noted}
 use Rattle.run_laws.specs.Machine.{MachineState}
 use Rattle.run_laws.specs.Schedule.{schedule, machine_or, the_machine}
-use Rattle.run_laws.specs.Facts.{Place, Facts, facts}
-use Rattle.run_laws.specs.Pages.{is_at, pages_of, pages_at, allowed, free_pages}
+use Rattle.run_laws.specs.Facts.{Place, facts}
+use Rattle.run_laws.specs.Pages.{is_at, pages_of, pages_at, allowed}
 use Rattle.run_laws.specs.Loads.{load_at, own_entry}
 use Rattle.run_laws.specs.Vectors.{Exchange, in_front, behind_it, exchanged_by, exchanged}
 use Rattle.run_laws.specs.Honest.{Honest, AllHonest, HonestLaw}

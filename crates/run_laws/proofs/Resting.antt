@@ -9,7 +9,7 @@ use Rattle.run_tokens.specs.Notes.{Turn, Body, Kept, Slot, Running, context}
 use Rattle.run_tokens.specs.Spots.{Spot, Nowhere, Runs, Calls, Holds, Pauses, Answered, Asks, Granted, Denied, Travels, InReply, Ended, call_at, slot_by}
 use Rattle.run_tokens.specs.Home.{live_of, HasEnded, unheld}
 use Rattle.run_tokens.specs.Needs.{Right, alive}
-use Rattle.run_tokens.specs.Does.{EnabledHere, NoneRuns, HalfDueTo}
+use Rattle.run_tokens.specs.Does.{EnabledHere, NoneRuns}
 use Rattle.run_tokens.specs.Cluster.{World, events}
 use Rattle.run_tokens.specs.Rests.{Kind, Retry, RunOn, NextLine, SendHalf, HalfReady, MayGoOn, RunsHere, LineReady, Applies, Finished, Busy}
 use Rattle.run_tokens.proofs.Talk.{same_numbers}

@@ -3,7 +3,7 @@ use Rattle.std.proofs.Common.{◌≡◌, ◌≢◌, ℕ, ◌+◌, ◌<◌, ◌�
 use Rattle.std.specs.Prelude.{max, ◌-◌}
 use Rattle.std.proofs.lemmas.Bool.Decides.{leb_tells}
 use lib.Dec.{leb}
-use Rattle.run_tokens.specs.Ops.{Ops, Sound, Acted, is_child, sum_below}
+use Rattle.run_tokens.specs.Ops.{Ops, Sound, Acted, is_child}
 use Rattle.run_tokens.specs.Deeds.{ForLine, Chosen, Gossips, Manner, Did, Broke, Fell, Paused, Gone, Moving, There, Deed, Sent, Held, Served, Got, Poked, Begin, Keep, Missed, Again, Allows, Denies, Depart, Stay, Land, Told, Refused, Closed, Gossips}
 use Rattle.run_tokens.specs.Notes.{served_one, is_some, Note, Call, Pause, Reply, Poke, Half, Go, NotHere, Ask, Allow, Deny, Move, Landed, NoMove, Done, Post, letter, Turn, Body, Kept, Context, context, State, Running, Waiting, Asking, Slot, Local, Way, way}
 use Rattle.run_tokens.specs.Spots.{Spot, Answered, Granted, Denied, slot_by, way_by, mine}

@@ -1,5 +1,5 @@
 -- Choice: at each half that is sent or heard the choice is one that the policy gives on what its node then sees, and none where it gives none.
-use Rattle.std.specs.Prelude.{ℕ, List, [], ◌∷◌}
+use Rattle.std.specs.Prelude.{List, [], ◌∷◌}
 use Rattle.run_tokens.specs.Ops.{Ops}
 use Rattle.run_tokens.specs.Gossip.{Sight, Talk, Silent, Stepping, Talking, talk_of}
 use Rattle.run_tokens.specs.Deeds.{Noted}

@@ -1,5 +1,5 @@
 -- When an event is due at a node, said from the events and the machine.
-use Rattle.std.specs.Prelude.{◌≡◌, ◌≢◌, ◌⊎◌, ◌<◌, ℕ, true, false, Some, None, List, [], ◌∷◌, length, slice_get}
+use Rattle.std.specs.Prelude.{◌≡◌, ◌≢◌, ◌⊎◌, ◌<◌, ℕ, true, Some, None, List, length, slice_get}
 use Rattle.node_event.specs.declared.script.ScriptLine.{ScriptLine}
 use Rattle.run_tokens.specs.Ops.{Ops}
 use Rattle.run_tokens.specs.Deeds.{Noted}

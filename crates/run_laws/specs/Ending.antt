@@ -1,5 +1,5 @@
 -- What holds of the end of a run, and of each moment before it. The events stand the newest first.
-use Rattle.std.specs.Prelude.{◌≡◌, ◌≤◌, false, ◌<◌, ◌⊎◌, ℕ, Some, None, List, ◌∷◌}
+use Rattle.std.specs.Prelude.{◌≡◌, ◌≤◌, false, ◌<◌, ℕ, Some, None, List, ◌∷◌}
 use Rattle.call_table.specs.declared.process.End.{End}
 use Rattle.call_table.specs.declared.process.PidState.TheVariants as states
 use Rattle.run_tokens.specs.Ops.{Ops}

@@ -1,5 +1,5 @@
 -- Gossip: of two nodes or more none goes on for 17 quanta of steps without a half; a half is one that is due, to another node; and one that is heard was sent.
-use Rattle.std.specs.Prelude.{◌≡◌, ◌≢◌, ℕ, ◌<◌, ◌≤◌, Bool, true, false, Option, List, [], ◌∷◌}
+use Rattle.std.specs.Prelude.{◌≢◌, ℕ, ◌<◌, ◌≤◌, true, false, List, [], ◌∷◌}
 use Rattle.run_tokens.specs.Ops.{Ops}
 use Rattle.run_tokens.specs.Gossip.{Talk, Silent, Stepping, Talking, talk_of}
 use Rattle.run_tokens.specs.Deeds.{Noted}

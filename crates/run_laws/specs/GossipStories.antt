@@ -1,17 +1,15 @@
 -- Worked histories of gossip, and of what the laws refuse besides, on the small machine. The events stand the oldest first.
-use Rattle.std.specs.Prelude.{◌≡◌, ℕ, ◌==◌, pos, false, true, cond, Option, Some, None, List, [], ◌∷◌}
+use Rattle.std.specs.Prelude.{ℕ, ◌==◌, pos, false, true, cond, Option, Some, None, List, [], ◌∷◌}
 use Rattle.call_table.specs.declared.process.End.TheVariants as end
 use Rattle.node_event.specs.declared.event.Event.{Event}
 use Rattle.node_event.specs.declared.event.What.TheVariants as what
 use Rattle.node_event.specs.declared.event.Way.TheVariants as way
-use Rattle.node_event.specs.declared.script.Order.TheVariants as order
-use Rattle.node_event.specs.declared.script.ScriptLine.{ScriptLine}
 use Rattle.run_tokens.specs.Ops.{Ops}
 use Rattle.run_tokens.specs.Gossip.{Entry, Movable, Sight, Choice}
 use Rattle.run_laws.specs.Schedule.{machine_at, With}
 use Rattle.run_laws.specs.Ends.{DoneOrStuck}
-use Rattle.run_laws.specs.SmallMachine.{ExitCall, FaultAt, Goes, Calls, Program, no_choice, small_of, small}
-use Rattle.run_laws.specs.Histories.{read, at, line, program, hello_script, move_script, mover, poke_script, poker}
+use Rattle.run_laws.specs.SmallMachine.{ExitCall, FaultAt, Goes, Calls, no_choice, small_of, small}
+use Rattle.run_laws.specs.Histories.{read, at, program, hello_script, move_script, mover}
 
 -- a policy that moves the first process that it may move to the first other node that it knows
 abbrev pub push_to : ℕ → List Movable → List Entry → Option Choice

@@ -3,7 +3,7 @@ use Rattle.std.specs.Prelude.{◌≡◌, ◌≢◌, ℕ, ◌+◌, ◌<◌, ◌�
 use Rattle.node_event.specs.declared.script.Order.{Order}
 use Rattle.node_event.specs.declared.script.Order.TheVariants as order
 use Rattle.run_tokens.specs.Ops.{Ops}
-use Rattle.run_tokens.specs.Deeds.{Text, Finish, Nothing, Deed, Run, Kill, Bid, Unsent, Other, Held, Served, Told, Again, Closed, Gossips, Strange, Noted}
+use Rattle.run_tokens.specs.Deeds.{Text, Finish, Nothing, Deed, Run, Kill, Bid, Unsent, Other, Held, Served, Told, Again, Closed, Strange, Noted}
 use Rattle.run_tokens.specs.Home.{live_of, HasEnded}
 use Rattle.run_laws.specs.Machine.{MachineState}
 use Rattle.run_laws.specs.Schedule.{machine_at, With}

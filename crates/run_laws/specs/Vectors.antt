@@ -1,5 +1,5 @@
 -- What the events tell of gossip: the vector of each node, how many halves it sent, and the halves that were sent and are not heard yet.
-use Rattle.std.specs.Prelude.{ℕ, ◌==◌, ◌&&◌, Bool, true, false, cond, Option, List, [], ◌∷◌, ◌++◌}
+use Rattle.std.specs.Prelude.{ℕ, ◌==◌, ◌&&◌, true, false, cond, Option, List, [], ◌∷◌, ◌++◌}
 use Rattle.run_tokens.specs.Ops.{Ops}
 use Rattle.run_tokens.specs.Gossip.{Entry, Gossip, no_gossip, one_step, told_places, gossip_after, Talk, Silent, Stepping, Talking, talk_of}
 use Rattle.run_tokens.specs.Deeds.{Noted}

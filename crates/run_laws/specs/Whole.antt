@@ -15,6 +15,7 @@ use Rattle.run_laws.specs.MoveLines.{MoveLines}
 use Rattle.run_laws.specs.AskLaw.{AskLaw}
 use Rattle.run_laws.specs.LandingLaw.{LandingLaw}
 use Rattle.run_laws.specs.Grounds.{Grounded}
+use Rattle.run_laws.specs.Owned.{Owned}
 
 module _ (O : Ops) where
   -- the one-node machine that plays the events has home's kernel, the user state of each running context, and the replies
@@ -35,4 +36,5 @@ module _ (O : Ops) where
     pub move_lines : MoveLines O es
     pub asking : AskLaw es
     pub landings : LandingLaw es
+    pub owned : Owned O es w replays.machine
     pub one_outcome : (line : ℕ) → outcomes line es ≤ 1

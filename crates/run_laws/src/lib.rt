@@ -19,20 +19,20 @@ ghost use Rattle.run_laws.specs.Ending.{Ending};
 ghost use Rattle.run_laws.specs.EndStories.{hello_ends, reader_ends, keeper_ends, reached_goes_on, one_event_full, context_before, reader, reader_script, reader_events, keeper, keeper_script, keeper_events};
 ghost use Rattle.run_laws.specs.Honest.{Honest};
 ghost use Rattle.run_laws.specs.GossipStories.{pusher, push_events, heavy, denied_events, unchosen_events, unsent_events, invented, three, wrong_events, walker, walk_events, faulter, fault_events, valued_events, unpoked_events, loose_not_over};
-ghost use Rattle.run_laws.specs.Carried.{Did, Sorted, own_events, shown, CarriedRun};
+ghost use Rattle.run_laws.specs.Carried.{Did, Sorted, own_events, shown, CarriedRun, NoneStrange};
 ghost use Rattle.run_laws.specs.Histories.{read, left_out, hello_script, hello, hello_events, writer, twice_events, fork_script, forker, fork_events, move_script, mover, move_events, first_events, copy_events, refused_events, again_events, break_script, breaker, break_events, left_events, poke_script, poker, poke_events, unheeded_events};
 
-/// Whatever the cluster of the small machine does, turn after turn, all laws hold of its events. `h` are the turns, and `es` the events that the
-/// nodes recorded, both the newest first. `w` is how the turns leave the nodes and links.
+/// Whatever the cluster of the small machine does, turn after turn, all laws hold of its events, its letters are carried, and no letter is strange. `h` are
+/// the turns, and `es` the events that the nodes recorded, both the newest first. `w` is how the turns leave the nodes and links.
 pub fn laws_of_runs()
-    ensures { (h : List (Turn mover)) (w : World mover) (es : List Event) → Reached mover h w → all_noted mover.script es ≡ events mover h → Holds mover (all_noted mover.script es) w }
+    ensures { (h : List (Turn mover)) (w : World mover) (es : List Event) → Reached mover h w → all_noted mover.script es ≡ events mover h → Holds mover (all_noted mover.script es) w × CarriedRun mover (all_noted mover.script es) w × NoneStrange mover h }
 {}
 
 /// Whatever the nodes did, each by itself, and whatever each link lists: where their journals are put in order by stamp and node, all laws hold of
-/// that list, and its letters are carried: each was posted before it was taken, and each link kept its order. No order of turns is assumed but each
-/// node's own. `turns` are what each node did, the newest first, `w` how that leaves the nodes and links, and `es` the list.
+/// that list, and its letters are carried: each was posted before it was taken, and each link kept its order; and no node skipped a letter as strange. No order
+/// of turns is assumed but each node's own. `turns` are what each node did, the newest first, `w` how that leaves the nodes and links, and `es` the list.
 pub fn laws_of_journals()
-    ensures { (turns : ℕ → List (Turn mover)) (w : World mover) (es : List Event) → Did mover turns w → Sorted (all_noted mover.script es) → ((n : ℕ) → own_events n (all_noted mover.script es) ≡ shown mover (turns n)) → Holds mover (all_noted mover.script es) w × CarriedRun mover (all_noted mover.script es) w }
+    ensures { (turns : ℕ → List (Turn mover)) (w : World mover) (es : List Event) → Did mover turns w → Sorted (all_noted mover.script es) → ((n : ℕ) → own_events n (all_noted mover.script es) ≡ shown mover (turns n)) → Holds mover (all_noted mover.script es) w × CarriedRun mover (all_noted mover.script es) w × ((n : ℕ) → NoneStrange mover (turns n)) }
 {}
 
 /// Where each stamp is exactly one more than its node's clock and its letter's stamp, no letter that comes is odd: in fewer than 2^32 - 1 turns no
@@ -43,8 +43,7 @@ pub fn no_odd_letters()
 
 /// How it ends, at whatever moment: what a node can do without a letter is what is due there by the events and the one-node machine; where every link is
 /// empty and every node rests, the run is done or stuck, and each move line has its outcome or is open; and whose each node's contexts are. A letter lies on
-/// a link where one was posted and not taken. A node that has something to do can make a turn, or a half is due
-/// there before it, where the machine and its script are able, as these are.
+/// a link where one was posted and not taken. A node that has something to do can make a turn, where the machine and its script are able, as these are.
 pub fn end_of_runs()
     ensures able { Able mover }
     ensures letters { (h : List (Turn mover)) (w : World mover) → Reached mover h w → (n : ℕ) → Same (Awaits mover n w) (Untaken mover n h) }

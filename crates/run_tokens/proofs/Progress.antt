@@ -1,5 +1,5 @@
 -- The same progress, call by call, is one.
-use Rattle.std.proofs.Common.{◌≡◌, ℕ, refl}
+use Rattle.std.proofs.Common.{◌≡◌, refl}
 use Rattle.run_tokens.specs.Notes.{Progress, SameProgress}
 
 pub as_one : {g h : Progress} → SameProgress g h → g ≡ h
