@@ -80,7 +80,7 @@ module _ (O : Ops) where
   abbrev pub pair : O.Kernel → Local O → Local O → ℕ → ℕ → List (Post O) → World O
   pair k home away a b link = record { nodes = λ n. cond (n == 0) home (cond (n == 1) away (fresh_node k)); links = λ x y. cond ((x == a) && (y == b)) link [] }
 
-  pair_starts : (k : O.Kernel) → k ≡ O.new_kernel → Starts O (pair k (fresh_node k) (fresh_node k) 0 0 [])
+  pub pair_starts : (k : O.Kernel) → k ≡ O.new_kernel → Starts O (pair k (fresh_node k) (fresh_node k) 0 0 [])
   pair_starts k e = record { nodes = λ n. go n (n == 0) (n == 1); links = λ a b. cond_same ((a == 0) && (b == 0)) [] }
     where
       fresh_is : (n : ℕ) → Rattle.run_tokens.specs.Cluster.Fresh O n (fresh_node k)
@@ -91,13 +91,13 @@ module _ (O : Ops) where
       go n false true = fresh_is n
       go n false false = fresh_is n
 
-  home_only : (k : O.Kernel) (old new away : Local O) (m : ℕ) → m ≢ 0 → cond (m == 0) new (cond (m == 1) away (fresh_node k)) ≡ cond (m == 0) old (cond (m == 1) away (fresh_node k))
+  pub home_only : (k : O.Kernel) (old new away : Local O) (m : ℕ) → m ≢ 0 → cond (m == 0) new (cond (m == 1) away (fresh_node k)) ≡ cond (m == 0) old (cond (m == 1) away (fresh_node k))
   home_only k old new away m ne = cond_off m 0 new _ ne ∙ sym (cond_off m 0 old _ ne)
 
-  away_only : (k : O.Kernel) (home old new : Local O) (m : ℕ) → m ≢ 1 → cond (m == 0) home (cond (m == 1) new (fresh_node k)) ≡ cond (m == 0) home (cond (m == 1) old (fresh_node k))
+  pub away_only : (k : O.Kernel) (home old new : Local O) (m : ℕ) → m ≢ 1 → cond (m == 0) home (cond (m == 1) new (fresh_node k)) ≡ cond (m == 0) home (cond (m == 1) old (fresh_node k))
   away_only k home old new m ne = ap (λ (x : Local O). cond (m == 0) home x) (cond_off m 1 new _ ne ∙ sym (cond_off m 1 old _ ne))
 
-  take_all : (k : Bool) (l : Post O) → cond k (l ∷ []) [] ≡ cond k (l ∷ []) [] ++ []
+  pub take_all : (k : Bool) (l : Post O) → cond k (l ∷ []) [] ≡ cond k (l ∷ []) [] ++ []
   take_all true l = refl
   take_all false l = refl
 

@@ -55,3 +55,4 @@ pub mod Exchanged
 pub mod GossipLaws
 pub mod HonestVectors
 pub mod GossipStories
+pub mod WholeStory

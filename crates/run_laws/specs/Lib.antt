@@ -36,3 +36,4 @@ pub mod GossipLaw
 pub mod ChoiceLaw
 pub mod Honest
 pub mod GossipStories
+pub mod WholeStory

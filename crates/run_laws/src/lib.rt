@@ -19,6 +19,7 @@ ghost use Rattle.run_laws.specs.Ending.{Ending};
 ghost use Rattle.run_laws.specs.EndStories.{hello_ends, reader_ends, keeper_ends, reached_goes_on, one_event_full, context_before, reader, reader_script, reader_events, keeper, keeper_script, keeper_events};
 ghost use Rattle.run_laws.specs.Honest.{Honest};
 ghost use Rattle.run_laws.specs.GossipStories.{pusher, push_events, heavy, denied_events, unchosen_events, unsent_events, invented, three, wrong_events, walker, walk_events, faulter, fault_events, valued_events, unpoked_events, loose_not_over};
+ghost use Rattle.run_laws.specs.WholeStory.{traveller, travel_events, travel_done};
 ghost use Rattle.run_laws.specs.Carried.{Did, Sorted, own_events, shown, CarriedRun, NoneStrange};
 ghost use Rattle.run_laws.specs.Histories.{read, left_out, hello_script, hello, hello_events, writer, twice_events, fork_script, forker, fork_events, move_script, mover, move_events, first_events, copy_events, refused_events, again_events, break_script, breaker, break_events, left_events, poke_script, poker, poke_events, unheeded_events};
 
@@ -74,9 +75,12 @@ pub fn ends_exist()
     ensures open { (h : List (Turn keeper)) × (w : World keeper) × Reached keeper h w × AllRest keeper w × (events keeper h ≡ read keeper_script keeper_events) }
 {}
 
-/// There are such runs, also with exact stamps: the first line of the script is carried out.
+/// There are such runs, also with exact stamps: the first line of the script is carried out. And one goes from the launch to the end: a program forks, its node
+/// tells the other one of itself, the program moves there by a line of the script, both processes exit, and the run is done.
 pub fn runs_exist()
-    ensures { (h : List (Turn mover)) × (w : World mover) × (run : Reached mover h w) × Timed mover h w run × (events mover h ≡ read move_script first_events) }
+    ensures whole { (h : List (Turn traveller)) × (w : World traveller) × Reached traveller h w × (events traveller h ≡ read move_script travel_events) }
+    ensures done { travel_done }
+    ensures first { (h : List (Turn mover)) × (w : World mover) × (run : Reached mover h w) × Timed mover h w run × (events mover h ≡ read move_script first_events) }
 {}
 
 /// Lawful are: the nine events of a program that writes and exits, a fork, a move from its asking to its landing, a held call that a signal
