@@ -19,13 +19,24 @@ pub struct Done {
 #[derive(Drop)]
 pub enum Message {
     /// To home: a forwarded call, or a fault.
-    Call { pid: u32, request: Request },
+    Call {
+        pid: u32,
+        request: Request,
+    },
     /// To home: the process stopped between two steps so that a signal may be taken; whether it has room for a signal's frame.
-    Pause { pid: u32, room: bool },
+    Pause {
+        pid: u32,
+        room: bool,
+    },
     /// From home: what a call or a pause came to.
-    Reply { pid: u32, done: Done },
+    Reply {
+        pid: u32,
+        done: Done,
+    },
     /// From home: a signal is deliverable.
-    Poke { pid: u32 },
+    Poke {
+        pid: u32,
+    },
     /// From home: the process is to move.
     Go {
         pid: u32,
@@ -41,11 +52,20 @@ pub enum Message {
         line: u32,
     },
     /// To the target of a move: is there room for so many pages?
-    Ask { pid: u32, need: u32 },
+    Ask {
+        pid: u32,
+        need: u32,
+    },
     /// From the target: there is, and it is kept.
-    Allow { pid: u32 },
+    Allow {
+        pid: u32,
+    },
     /// From the target: there is not.
-    Deny { pid: u32, need: u32, free: u32 },
+    Deny {
+        pid: u32,
+        need: u32,
+        free: u32,
+    },
     /// To the target: the process itself.
     Move {
         pid: u32,
@@ -61,9 +81,13 @@ pub enum Message {
         line: Option<u32>,
     },
     /// To home: the move of that line is over without a move.
-    NoMove { line: u32 },
+    NoMove {
+        line: u32,
+    },
     /// Half of what the sender knows of the nodes' loads.
-    Half { places: [Option<Entry>; 4] },
+    Half {
+        places: [Option<Entry>; 4],
+    },
 }
 
 /// Whether what an entry speaks of, if there is one, is a node below `nodes`.

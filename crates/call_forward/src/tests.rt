@@ -59,7 +59,23 @@ fn messages(rt: HostRuntime) {
     let places = [None, Some(entry), None, None];
     assert_eq!(rt; told(Message::NoMove { line }), (None, true, true));
     assert_eq!(rt; told(Message::Poke { pid }), (Some(5), false, true));
-    assert_eq!(rt; told(Message::Go { pid, to: 4, hops, line }), (Some(5), false, false));
-    assert_eq!(rt; told(Message::NotHere { pid, to: 3, hops, line }), (Some(5), true, true));
+    assert_eq!(rt;
+        told(Message::Go {
+            pid,
+            to: 4,
+            hops,
+            line
+        }),
+        (Some(5), false, false)
+    );
+    assert_eq!(rt;
+        told(Message::NotHere {
+            pid,
+            to: 3,
+            hops,
+            line
+        }),
+        (Some(5), true, true)
+    );
     assert_eq!(rt; told(Message::Half { places }), (None, false, false));
 }

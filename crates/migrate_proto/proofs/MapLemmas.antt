@@ -45,21 +45,21 @@ found_tail q x es off = ap (λ b. cond b (Some x.1) (found q es)) (untied q x.0 
 stands : (es : Entries) (i pid : ℕ) (d : ℕ × ℕ) → i < length es → (get_or es i d).0 ≡ pid → found pid es ≡ None → ⊥
 stands [] i pid d less e none = absurd (omega arith)
 stands (x ∷ es) zero pid d less e none = let f : Some x.1 ≡ None = sym (found_head pid x es (sym e)) ∙ none in cc
-stands (x ∷ es) (suc i) pid d less e none = go (cases_eq pid x.0)
+stands (x ∷ es) (suc i) pid d less e none = go (cases_eq pid x.0) (λ n. stands es i pid d (omega arith) e n)
   where
-    go : (pid ≡ x.0) ⊎ (pid ≢ x.0) → ⊥
-    go (inl s) = let f : Some x.1 ≡ None = sym (found_head pid x es s) ∙ none in cc
-    go (inr off) = stands es i pid d (omega arith) e (sym (found_tail pid x es off) ∙ none)
+    go : (pid ≡ x.0) ⊎ (pid ≢ x.0) → (found pid es ≡ None → ⊥) → ⊥
+    go (inl s) rest = let f : Some x.1 ≡ None = sym (found_head pid x es s) ∙ none in cc
+    go (inr off) rest = rest (sym (found_tail pid x es off) ∙ none)
 
 -- and it is what stands there
 pub found_there : (es : Entries) (i pid : ℕ) (d : ℕ × ℕ) → Apart es → i < length es → (get_or es i d).0 ≡ pid → found pid es ≡ Some (get_or es i d).1
 found_there [] i pid d a less e = absurd (omega arith)
 found_there (x ∷ es) zero pid d a less e = found_head pid x es (sym e)
-found_there (x ∷ es) (suc i) pid d a less e = go (cases_eq pid x.0)
+found_there (x ∷ es) (suc i) pid d a less e = go (cases_eq pid x.0) (found_there es i pid d a.1 (omega arith) e)
   where
-    go : (pid ≡ x.0) ⊎ (pid ≢ x.0) → found pid (x ∷ es) ≡ Some (get_or es i d).1
-    go (inl s) = absurd (stands es i pid d (omega arith) e (ap (λ (k : ℕ). found k es) s ∙ a.0))
-    go (inr off) = found_tail pid x es off ∙ found_there es i pid d a.1 (omega arith) e
+    go : (pid ≡ x.0) ⊎ (pid ≢ x.0) → found pid es ≡ Some (get_or es i d).1 → found pid (x ∷ es) ≡ Some (get_or es i d).1
+    go (inl s) rest = absurd (stands es i pid d (omega arith) e (ap (λ (k : ℕ). found k es) s ∙ a.0))
+    go (inr off) rest = found_tail pid x es off ∙ rest
 
 abbrev without : ℕ → ℕ → Entries → Option ℕ
 without pid q es = cond (eq_by_cmp nat_cmp q pid) None (found q es)
@@ -158,15 +158,15 @@ nothing = none_long _ (sym (len-entries (map.empty {X = ℕ} {R = nat_cmp})) ∙
 
 sum_put : (k v : ℕ) (es : Entries) → found k es ≡ None → sum_by pages_of (put nat_cmp k v es) ≡ v + sum_by pages_of es
 sum_put k v [] none = sum_by-cons pages_of (k, v) []
-sum_put k v (x ∷ es) none = go (nat_cmp k x.0) refl
+sum_put k v (x ∷ es) none = go (nat_cmp k x.0) refl (λ n. sum_put k v es n)
   where
     off : k ≡ x.0 → ⊥
     off s = let f : Some x.1 ≡ None = sym (found_head k x es s) ∙ none in cc
 
-    go : (r : Ordering) → r ≡ nat_cmp k x.0 → sum_by pages_of (by_order r ((k, v) ∷ x ∷ es) ((x.0, v) ∷ es) (x ∷ put nat_cmp k v es)) ≡ v + sum_by pages_of (x ∷ es)
-    go Less e = sum_by-cons pages_of (k, v) (x ∷ es)
-    go Equal e = absurd (off (ranked k x.0 Equal e))
-    go Greater e = omega (arith, sum_by-cons pages_of x (put nat_cmp k v es), sum_by-cons pages_of x es, sum_put k v es (sym (found_tail k x es off) ∙ none))
+    go : (r : Ordering) → r ≡ nat_cmp k x.0 → (found k es ≡ None → sum_by pages_of (put nat_cmp k v es) ≡ v + sum_by pages_of es) → sum_by pages_of (by_order r ((k, v) ∷ x ∷ es) ((x.0, v) ∷ es) (x ∷ put nat_cmp k v es)) ≡ v + sum_by pages_of (x ∷ es)
+    go Less e rest = sum_by-cons pages_of (k, v) (x ∷ es)
+    go Equal e rest = absurd (off (ranked k x.0 Equal e))
+    go Greater e rest = omega (arith, sum_by-cons pages_of x (put nat_cmp k v es), sum_by-cons pages_of x es, rest (sym (found_tail k x es off) ∙ none))
 
 pub summed : (es : Entries) → Apart es → reserved_pages (map.from_entries es) ≡ sum_by pages_of es
 summed [] a = ap (sum_by pages_of) nothing
@@ -179,20 +179,20 @@ summed (x ∷ es) a =
 
 short : (pid : ℕ) (es : Entries) → length es ≤ position_or_len (λ e. e.0 == pid) es → found pid es ≡ None
 short pid [] le = refl
-short pid (x ∷ es) le = go (cases_eq x.0 pid) (cases_Bool (x.0 == pid))
+short pid (x ∷ es) le = go (cases_eq x.0 pid) (cases_Bool (x.0 == pid)) (λ n. short pid es n)
   where
-    go : (x.0 ≡ pid) ⊎ (x.0 ≢ pid) → ((x.0 == pid) ≡ true) ⊎ ((x.0 == pid) ≡ false) → found pid (x ∷ es) ≡ None
-    go u (inl t) = absurd (let z : position_or_len (λ e. e.0 == pid) (x ∷ es) ≡ 0 = rw t refl in omega (arith, z, le))
-    go (inl s) (inr t) = absurd (let z : (x.0 == pid) ≡ true = eq-eqb x.0 pid s in cc)
-    go (inr off) (inr t) =
-        let z : position_or_len (λ e. e.0 == pid) (x ∷ es) ≡ suc (position_or_len (λ e. e.0 == pid) es) = rw t refl in
-        found_tail pid x es (λ s. off (sym s)) ∙ short pid es (omega (arith, z, le))
+    go : (x.0 ≡ pid) ⊎ (x.0 ≢ pid) → ((x.0 == pid) ≡ true) ⊎ ((x.0 == pid) ≡ false) → (length es ≤ position_or_len (λ e. e.0 == pid) es → found pid es ≡ None) → found pid (x ∷ es) ≡ None
+    go u (inl t) rest = absurd (let z : position_or_len (λ e. e.0 == pid) (x ∷ es) ≡ 0 = rw t refl in omega (arith, z, le))
+    go (inl s) (inr t) rest = absurd (let z : (x.0 == pid) ≡ true = eq-eqb x.0 pid s in cc)
+    go (inr off) (inr t) rest =
+        let z : position_or_len (λ e. e.0 == pid) (x ∷ es) ≡ 1 + position_or_len (λ e. e.0 == pid) es = rw t refl in
+        found_tail pid x es (λ s. off (sym s)) ∙ rest (omega (arith, z, le))
 
 missed : (pid : ℕ) (es : Entries) → None ≡ position (λ e. e.0 == pid) es → found pid es ≡ None
 missed pid es e = elim (cases_Bool (nat_lt (position_or_len (λ e. e.0 == pid) es) (length es))) [
-    | inl t ↦ let f : ◌≡◌ {A = Option ℕ} None (Some (position_or_len (λ e. e.0 == pid) es)) = e ∙ rw t refl in absurd (cc)
-    | inr t ↦ short pid es (ltb-false _ _ t)
-  ]
+  | inl t ↦ let f : ◌≡◌ {A = Option ℕ} None (Some (position_or_len (λ e. e.0 == pid) es)) = e ∙ rw t refl in absurd (cc)
+  | inr t ↦ short pid es (ltb-false _ _ t)
+]
 
 -- what stands at the place that was found
 pub at_place : (pid : ℕ) (es : Entries) (i : ℕ) (d : ℕ × ℕ) → Some i ≡ position (λ e. e.0 == pid) es → (i < length es) × ((get_or es i d).0 ≡ pid)

@@ -5,7 +5,6 @@ use Rattle.call_forward.specs.declared.state.State.TheVariants.{Running, Waiting
 use Rattle.migrate_proto.specs.declared.go.GoAnswer.{GoAnswer}
 use Rattle.migrate_proto.specs.declared.go.GoAnswer.TheVariants.{Begin, Keep, There, Moving, Missed}
 
-
 -- a process with a move under way refuses another, also one to where it is
 abbrev pub go_answer : Option State → Bool → ℕ → ℕ → GoAnswer
 go_answer None kept here to = Missed

@@ -44,7 +44,7 @@ length_set (x ∷ xs) (suc k) y = ap (λ (n : ℕ). suc n) (length_set xs k y)
 -- what stands at a place
 pub got_at : {A : Type 0} (xs : List A) (k : ℕ) (x : A) → k < length xs → x ≡ get_or xs k x → slice_get xs k ≡ Some x
 got_at [] k x less e = absurd (omega arith)
-got_at (y ∷ ys) zero x less e = ap (λ (z : A). Some z) (sym e)
+got_at {A = A} (y ∷ ys) zero x less e = ap (λ (z : A). Some z) (sym e)
 got_at (y ∷ ys) (suc k) x less e = got_at ys k x (omega arith) e
 
 some_is : {A : Type 0} (x y : A) → Some x ≡ Some y → x ≡ y
@@ -68,9 +68,6 @@ led_same : (n : ℕ) → 0 < n → led_to (n + 1) n ≡ led_to n n
 led_same n less = let e : n + 1 ≡ suc n = omega arith in ap (λ (k : ℕ). led_to k n) e ∙ (ap (λ b. led_to n n ++ cond b (n ∷ []) []) (not_linked n less) ∙ append-nil (led_to n n))
 
 module _ {C : Type 0} where
-  abbrev Sides : Type 0
-  Sides = List (List (Towards C))
-
   abbrev node_of : Towards C → ℕ
   node_of t = t.node
 
@@ -92,31 +89,31 @@ module _ {C : Type 0} where
   to_last [] t none = ap (λ b. cond b (Some t.carrier) None) (eq-eqb t.node t.node refl)
   to_last (s ∷ side) t none = skip (s.node == t.node) s.carrier t.carrier (carrier_to side t.node) (carrier_to (side ++ t ∷ []) t.node) none (to_last side t)
 
-  of_same : (sides other : Sides) (i k : ℕ) (j : ℕ) → slice_get sides i ≡ slice_get other k → carrier_of sides i j ≡ carrier_of other k j
+  of_same : (sides other : List (List (Towards C))) (i k : ℕ) (j : ℕ) → slice_get sides i ≡ slice_get other k → carrier_of sides i j ≡ carrier_of other k j
   of_same sides other i k j e = ap (option_and_then (λ side. carrier_to side j)) e
 
-  of_is : (sides : Sides) (side : List (Towards C)) (i j : ℕ) → slice_get sides i ≡ Some side → carrier_of sides i j ≡ carrier_to side j
+  of_is : (sides : List (List (Towards C))) (side : List (Towards C)) (i j : ℕ) → slice_get sides i ≡ Some side → carrier_of sides i j ≡ carrier_to side j
   of_is sides side i j e = ap (option_and_then (λ s. carrier_to s j)) e
 
-  of_past : (sides : Sides) (i j : ℕ) → length sides ≤ i → carrier_of sides i j ≡ None
+  of_past : (sides : List (List (Towards C))) (i j : ℕ) → length sides ≤ i → carrier_of sides i j ≡ None
   of_past sides i j le = ap (option_and_then (λ s. carrier_to s j)) (get_past sides i le)
 
   -- the nodes before j have a carrier towards the new node n, which has one towards each of them in its row
-  pub record IsGrowing (pair : C → C → Type 0) (fresh : C → Type 0) (j n : ℕ) (sides : Sides) (row : List (Towards C)) : Type 0 where
+  pub record IsGrowing (pair : C → C → Type 0) (fresh : C → Type 0) (j n : ℕ) (sides : List (List (Towards C))) (row : List (Towards C)) : Type 0 where
     pub count : length sides ≡ n
     pub done : (i : ℕ) (side : List (Towards C)) → slice_get sides i ≡ Some side → i < j → map node_of side ≡ led_to (n + 1) i
     pub still : (i : ℕ) (side : List (Towards C)) → slice_get sides i ≡ Some side → j ≤ i → map node_of side ≡ led_to n i
     pub row_nodes : map node_of row ≡ led_to j n
     pub pairs : (i k : ℕ) (c d : C) → i < n → k < n → carrier_of sides i k ≡ Some c → carrier_of sides k i ≡ Some d → pair c d
     pub new : (i : ℕ) (c d : C) → carrier_of sides i n ≡ Some c → carrier_to row i ≡ Some d → pair c d × pair d c
-    pub fresh : EachIs fresh sides
+    pub each : EachIs fresh sides
     pub row_fresh : (k : ℕ) (d : C) → carrier_to row k ≡ Some d → fresh d
     pub beyond : (i k : ℕ) → n < k → carrier_of sides i k ≡ None
     pub unmet : (i : ℕ) → j ≤ i → carrier_of sides i n ≡ None
     pub ahead : (k : ℕ) → j ≤ k → carrier_to row k ≡ None
 
   module _ (pair : C → C → Type 0) (fresh : C → Type 0) where
-    pub grow_none : (n : ℕ) (sides : Sides) → IsGrown pair fresh n sides → IsGrowing pair fresh 0 n sides []
+    pub grow_none : (n : ℕ) (sides : List (List (Towards C))) → IsGrown pair fresh n sides → IsGrowing pair fresh 0 n sides []
     grow_none n sides g = record {
       count = g.pairs.count;
       done = λ i side e less. absurd (omega arith);
@@ -124,21 +121,21 @@ module _ {C : Type 0} where
       row_nodes = refl;
       pairs = λ i k c d il kl. g.pairs.pairs i k c d;
       new = λ i c d e f. absurd (cc);
-      fresh = g.fresh;
+      each = g.each;
       row_fresh = λ k d e. absurd (cc);
       beyond = λ i k less. g.beyond i k (omega arith);
       unmet = λ i le. g.beyond i n (omega arith);
       ahead = λ k le. refl;
     }
 
-    module _ (j n : ℕ) (sides : Sides) (row v w : List (Towards C)) (x y : C) (less : j < n) (is : slice_get sides j ≡ Some v) (more : w ≡ v ++ record { node = n; carrier = x } ∷ []) (xy : pair x y) (yx : pair y x) (fx : fresh x) (fy : fresh y) (g : IsGrowing pair fresh j n sides row) where
+    module _ (j n : ℕ) (sides : List (List (Towards C))) (row v w : List (Towards C)) (x y : C) (less : j < n) (is : slice_get sides j ≡ Some v) (more : w ≡ v ++ record { node = n; carrier = x } ∷ []) (xy : pair x y) (yx : pair y x) (fx : fresh x) (fy : fresh y) (g : IsGrowing pair fresh j n sides row) where
       tx : Towards C
       tx = record { node = n; carrier = x }
 
       ty : Towards C
       ty = record { node = j; carrier = y }
 
-      abbrev after : Sides
+      abbrev after : List (List (Towards C))
       after = slice_set sides j w
 
       abbrev row_after : List (Towards C)
@@ -194,8 +191,8 @@ module _ {C : Type 0} where
 
       by_fresh : (i k : ℕ) (c : C) → carrier_of after i k ≡ Some c → (k ≡ n) ⊎ (k ≢ n) → (i ≡ j) ⊎ (i ≢ j) → fresh c
       by_fresh i k c e (inl s) (inl t) = subst fresh (some_is x c (sym met ∙ (ap (λ (m : ℕ). carrier_of after m n) (sym t) ∙ (ap (carrier_of after i) (sym s) ∙ e)))) fx
-      by_fresh i k c e (inl s) (inr off) = g.fresh i k c (sym (elsewhere i k off) ∙ e)
-      by_fresh i k c e (inr o) u = g.fresh i k c (sym (old_at i k o) ∙ e)
+      by_fresh i k c e (inl s) (inr off) = g.each i k c (sym (elsewhere i k off) ∙ e)
+      by_fresh i k c e (inr o) u = g.each i k c (sym (old_at i k o) ∙ e)
 
       by_row : (k : ℕ) (d : C) → carrier_to row_after k ≡ Some d → (k ≡ j) ⊎ (k ≢ j) → fresh d
       by_row k d e (inl s) = subst fresh (some_is y d (sym row_here ∙ (ap (carrier_to row_after) (sym s) ∙ e))) fy
@@ -209,15 +206,15 @@ module _ {C : Type 0} where
         row_nodes = nodes_more row (record { node = j; carrier = y }) ∙ (ap (λ (ns : List ℕ). ns ++ j ∷ []) g.row_nodes ∙ sym (led_more j n (λ s. apart (sym s))));
         pairs = λ i k c d il kl e f. let io : i ≢ n = omega arith in let ko : k ≢ n = omega arith in g.pairs i k c d il kl (sym (old_at i k ko) ∙ e) (sym (old_at k i io) ∙ f);
         new = λ i c d e f. by_new i c d e f (cases_eq i j);
-        fresh = λ i k c e. by_fresh i k c e (cases_eq k n) (cases_eq i j);
+        each = λ i k c e. by_fresh i k c e (cases_eq k n) (cases_eq i j);
         row_fresh = λ k d e. by_row k d e (cases_eq k j);
         beyond = λ i k l. let off : k ≢ n = omega arith in old_at i k off ∙ g.beyond i k l;
         unmet = λ i le. let off : i ≢ j = omega arith in elsewhere i n off ∙ g.unmet i (omega arith);
         ahead = λ k le. let off : k ≢ j = omega arith in row_other k off ∙ g.ahead k (omega arith);
       }
 
-    module _ (n : ℕ) (sides : Sides) (row : List (Towards C)) (some : 0 < n) (g : IsGrowing pair fresh n n sides row) where
-      abbrev all : Sides
+    module _ (n : ℕ) (sides : List (List (Towards C))) (row : List (Towards C)) (some : 0 < n) (g : IsGrowing pair fresh n n sides row) where
+      abbrev all : List (List (Towards C))
       all = sides ++ row ∷ []
 
       before : (i k : ℕ) → i < n → carrier_of all i k ≡ carrier_of sides i k
@@ -249,7 +246,7 @@ module _ {C : Type 0} where
 
       by_each : (i k : ℕ) (c : C) → carrier_of all i k ≡ Some c → Order i → fresh c
       by_each i k c e (inl s) = g.row_fresh k c (sym (last i k s) ∙ e)
-      by_each i k c e (inr (inl l)) = g.fresh i k c (sym (before i k l) ∙ e)
+      by_each i k c e (inr (inl l)) = g.each i k c (sym (before i k l) ∙ e)
       by_each i k c e (inr (inr l)) = absurd (not_none c (carrier_of all i k) e (past i k l))
 
       by_beyond : (i k : ℕ) → n + 1 ≤ k → Order i → carrier_of all i k ≡ None
@@ -264,13 +261,13 @@ module _ {C : Type 0} where
           nodes = λ i side e. by_nodes i side e (cases_order i n);
           pairs = λ i k c d e f. by_pairs i k c d e f (cases_order i n) (cases_order k n);
         };
-        fresh = λ i k c e. by_each i k c e (cases_order i n);
+        each = λ i k c e. by_each i k c e (cases_order i n);
         beyond = λ i k le. by_beyond i k le (cases_order i n);
       }
 
     -- home alone
     module _ (own : C) (pp : pair own own) (ff : fresh own) where
-      abbrev alone : Sides
+      abbrev alone : List (List (Towards C))
       alone = (record { node = 0; carrier = own } ∷ []) ∷ []
 
       one_is : (b : Bool) (c : C) → cond b (Some own) None ≡ Some c → own ≡ c
@@ -297,6 +294,6 @@ module _ {C : Type 0} where
       pub grown_one : IsGrown pair fresh 1 ((record { node = 0; carrier = own } ∷ []) ∷ [])
       grown_one = record {
         pairs = record { count = refl; nodes = one_nodes; pairs = one_pairs };
-        fresh = one_fresh;
+        each = one_fresh;
         beyond = one_beyond;
       }

@@ -1,5 +1,5 @@
 -- The carriers of all nodes, a side for each node.
-use Rattle.std.specs.Prelude.{◌≡◌, ℕ, zero, suc, ◌<◌, ◌==◌, Bool, not, ◌||◌, List, [], ◌∷◌, ◌++◌, length, map, slice_get, Option, Some, None, if◌then◌else◌}
+use Rattle.std.specs.Prelude.{◌≡◌, ℕ, zero, suc, ◌≤◌, ◌==◌, Bool, not, ◌||◌, List, [], ◌∷◌, ◌++◌, length, map, slice_get, Option, Some, None, if◌then◌else◌}
 use Rattle.std.specs.Option.{option_and_then}
 use Rattle.call_forward.specs.declared.letter.Letter.{Letter}
 use Rattle.node_links.specs.declared.side.Towards.{Towards}
@@ -31,15 +31,16 @@ module _ {C : Type 0} where
 
   -- a carrier by which nothing has gone
   pub record IsFresh (puts gives : C → List Letter) (total : C → ℕ) (c : C) : Type 0 where
-    pub puts : puts c ≡ []
-    pub gives : gives c ≡ []
-    pub total : total c ≡ 0
+    pub put : puts c ≡ []
+    pub given : gives c ≡ []
+    pub taken : total c ≡ 0
 
+  -- each carrier of each side is so
   abbrev pub EachIs : (C → Type 0) → List (List (Towards C)) → Type 0
   EachIs P sides = (i j : ℕ) (c : C) → carrier_of sides i j ≡ Some c → P c
 
   -- n sides of such carriers in pairs, with none towards a node past them
   pub record IsGrown (pair : C → C → Type 0) (fresh : C → Type 0) (n : ℕ) (sides : List (List (Towards C))) : Type 0 where
     pub pairs : InPairs pair n sides
-    pub fresh : EachIs fresh sides
+    pub each : EachIs fresh sides
     pub beyond : (i j : ℕ) → n ≤ j → carrier_of sides i j ≡ None

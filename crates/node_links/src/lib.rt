@@ -3,7 +3,6 @@
 
 mod carrier;
 mod ends;
-mod link;
 mod ring;
 mod rings;
 mod side;
@@ -12,7 +11,6 @@ mod tests;
 
 pub use carrier::Carrier;
 pub use ends::{In, Out};
-pub use link::link;
 pub use ring::RingCarrier;
-pub use rings::{LINK_LETTERS, ring_carriers};
+pub use rings::{LINK_LETTERS, link, ring_carriers};
 pub use side::{Carriers, Side, Towards};

@@ -42,7 +42,10 @@ impl Carrier for RingCarrier {
     ghost total = { λ c. c.count };
 
     fn put(&mut self, letter: Letter) -> Option<Letter> {
-        self.out.put(letter)
+        match self.out.put(letter) {
+            Some(back) => Some(back),
+            None => None,
+        }
     }
 
     fn take(&mut self) -> Option<Letter> {
@@ -64,12 +67,17 @@ impl Carrier for RingCarrier {
         Ok(())
     }
 
+    #[tactic(auto, using(crate::proofs::LinkLemmas::met))]
     fn meet(&mut self, other: &mut RingCarrier) -> Result<bool, NoMemory> {
         let there = self.out.meet(&mut other.back);
         let back = other.out.meet(&mut self.back);
-        Ok(there && back)
+        if !there {
+            return Ok(false);
+        }
+        Ok(back)
     }
 
+    #[tactic(auto, using(crate::proofs::LinkLemmas::met))]
     fn meet_own(&mut self) -> Result<bool, NoMemory> {
         Ok(self.out.meet(&mut self.back))
     }

@@ -1,17 +1,30 @@
-// Rings between all nodes.
-ghost use Rattle.std.specs.Prelude.{◌+◌, ◌<◌, ◌≤◌, IfOk, OnOk};
+// Links, and those between all nodes.
+ghost use Rattle.std.specs.Prelude.{◌≡◌, ◌+◌, ◌<◌, ◌≤◌, [], IfOk, OnOk};
+ghost use Rattle.node_links.specs.Links.{letters_put, letters_taken, known_letters, free_slots, IsLink};
 ghost use Rattle.node_links.specs.Sides.{IsFresh, InPairs, EachIs, IsGrown};
 ghost use Rattle.node_links.specs.Rings.{ring_pair, IsNew};
 
 use crate::carrier::Carrier;
-use crate::link::link;
+use crate::ends::{In, Out};
 use crate::ring::RingCarrier;
 use crate::side::{Carriers, Side, Towards};
 use call_table::NoMemory;
+use rtrb::RingBuffer;
 use std::alloc::Global;
 
 /// The letters that a link has room for.
 pub const LINK_LETTERS: u32 = 64;
+
+/// A link for so many letters, on which nothing lies: its end to put and its end to take. It takes the memory for all of them.
+pub fn link(alloc: Global, capacity: u32) -> Result<(Out, In), NoMemory>
+    requires { 0 < capacity }
+    ensures ends { IfOk result (λ r. IsLink r.0 r.1) }
+    ensures nothing { IfOk result (λ r. (letters_put r.0 ≡ []) × (letters_taken r.1 ≡ []) × (known_letters r.1 ≡ [])) }
+    ensures room { IfOk result (λ r. free_slots r.0 ≡ capacity) }
+{
+    let (out, back) = RingBuffer::new(alloc, capacity as usize)?;
+    Ok((Out { ring: out }, In { ring: back }))
+}
 
 /// The carriers of two nodes towards each other.
 fn carriers_between(alloc: Global) -> Result<(RingCarrier, RingCarrier), NoMemory>
@@ -39,11 +52,9 @@ fn carrier_within(alloc: Global) -> Result<RingCarrier, NoMemory>
 fn home_alone(alloc: Global) -> Result<Vec<Side<RingCarrier>>, NoMemory>
     ensures { IfOk result (λ sides. IsGrown ring_pair IsNew 1 sides.items) }
 {
+    let carrier = carrier_within(alloc)?;
     let mut side = Side::new(alloc);
-    side.push(Towards {
-        node: 0,
-        carrier: carrier_within(alloc)?,
-    })?;
+    side.push(Towards { node: 0, carrier })?;
     let mut sides = Vec::new(alloc);
     sides.push(side)?;
     Ok(sides)

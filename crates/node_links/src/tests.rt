@@ -65,7 +65,11 @@ fn take_at(rt: &impl Abort, side: &mut Side<RingCarrier>, at: usize) -> (Option<
 fn rings_between_nodes(rt: HostRuntime) -> Result<(), Fail> {
     let mut sides = moved(ring_carriers(rt.alloc(), 3)?).into_vec();
     assert_eq!(rt; sides.len(), 3);
-    let led = (node_at(&sides[0], 0), node_at(&sides[1], 1), node_at(&sides[2], 1));
+    let led = (
+        node_at(&sides[0], 0),
+        node_at(&sides[1], 1),
+        node_at(&sides[2], 1),
+    );
     assert_eq!(rt; led, (Some(0), Some(2), Some(1)));
     assert_eq!(rt; put_at(&rt, &mut sides[1], 1, 5), None);
     assert_eq!(rt; take_at(&rt, &mut sides[2], 0), (None, 0));

@@ -7,7 +7,7 @@ use Rattle.node_links.proofs.SideLemmas.{IsGrowing, got_at, grow_none, grow_one,
 use Rattle.node_links.proofs.rings.add_node.Goals as goal
 
 pub loop-at-init : goal.loop-at-init
-loop-at-init c = grow_none ring_pair IsNew c.args.node c.args.sides.now.items c.requires.grown
+loop-at-init c = rw c.new-row.ensures (grow_none ring_pair IsNew c.args.node c.args.sides.now.items c.requires.grown)
 
 pub loop-at-preserved : goal.loop-at-preserved
 loop-at-preserved c =
@@ -15,7 +15,7 @@ loop-at-preserved c =
     let within : c.loop-at.at < length c.loop-at.sides.items = omega (arith, c.loop-at-test.true, c.loop-at.invariant.count) in
     subst (λ (k : List (Towards RingCarrier)). IsGrowing ring_pair IsNew (c.loop-at.at + 1) c.args.node (slice_set c.loop-at.sides.items c.loop-at.at c.push.new.self) k) (sym c.in_ok-push-2.ensures.ok)
     (grow_one ring_pair IsNew c.loop-at.at c.args.node c.loop-at.sides.items c.loop-at.row c.index_mut.result.now c.push.new.self c.in_ok-there.there c.in_ok-there.back c.loop-at-test.true
-        (got_at c.loop-at.sides.items c.loop-at.at c.index_mut.result.now within c.index_mut.ensures.value) c.in_ok-push.ensures.ok e.pair.0 e.pair.1 e.new.0 e.new.1 c.loop-at.invariant)
+    (got_at c.loop-at.sides.items c.loop-at.at c.index_mut.result.now within c.index_mut.ensures.value) c.in_ok-push.ensures.ok e.pair.0 e.pair.1 e.new.0 e.new.1 c.loop-at.invariant)
 
 pub returns : goal.returns
 returns c =

@@ -16,6 +16,6 @@ returns-clause-answer c = allowed c.args.need c.free-free.result _ (c.free-free.
 
 pub returns-clause-allowed : goal.returns-clause-allowed
 returns-clause-allowed c = λ e. (
-    pushed_map c.self.inside.entries.items c.args.self.now _ c.self.inside.total c.self.view_is c.self.invariant c.args.pid c.args.need c.requires.fresh c.requires.room c.push_reserved.new.self.items c.push_reserved.ensures.items,
-    pushed_pages c.self.inside.entries.items c.args.self.now _ c.self.inside.total c.self.view_is c.self.invariant c.args.pid c.args.need c.requires.fresh c.requires.room c.push_reserved.new.self.items c.push_reserved.ensures.items
-  )
+  pushed_map c.self.inside.entries.items c.args.self.now _ c.self.inside.total c.self.view_is c.self.invariant c.args.pid c.args.need c.requires.fresh c.requires.room c.push_reserved.new.self.items c.push_reserved.ensures.items,
+  pushed_pages c.self.inside.entries.items c.args.self.now _ c.self.inside.total c.self.view_is c.self.invariant c.args.pid c.args.need c.requires.fresh c.requires.room c.push_reserved.new.self.items c.push_reserved.ensures.items,
+)
