@@ -1,6 +1,5 @@
 -- A call and a fault leave as many processes as there were.
 use Rattle.std.proofs.Common.{◌≡◌, ℕ, zero, suc, ◌-◌, List, [], ◌∷◌, length, slice_set, refl, ap, ◌∙◌, sym, subst, Option, Some, None, Bool, true, false, cond, ◌==◌, slice_index, pos, nat_le, ℤ, ◌%◌, ◌++◌}
-use Rattle.std.specs.Option.{option_map, option_and_then}
 use Rattle.std.proofs.lemmas.List.{length-set}
 use Rattle.call_table.specs.declared.process.End.{End}
 use Rattle.call_table.specs.declared.process.End.TheVariants.{Exit}
@@ -15,10 +14,13 @@ use Rattle.fd_table.specs.Descriptors.{look_at}
 use Rattle.fd_table.specs.declared.description.Look.{Look}
 use Rattle.fd_table.specs.declared.description.Target.{Target}
 use Rattle.fd_table.specs.declared.description.Target.TheVariants.{TermIn, TermOut, File, ReadEnd, WriteEnd}
+use Rattle.call_table.specs.declared.limit.TheConstants.{FILE_BYTES}
 use Rattle.call_table.specs.declared.error.TheConstants.{EBADF, EFBIG, ENOSPC}
-use Rattle.kernel_spec.specs.Io.{IoState, IoDone}
-use Rattle.kernel_spec.specs.Kernel.{KernelState, Called, answers, answers_io, exited}
-use Rattle.kernel_spec.specs.Calls.{call_result, call_row, io_row, read_typed, read_result, read_in, read_at, can_read, write_result, write_in, write_at, can_write, with_write, room_of, shown}
+use Rattle.call_table.specs.declared.call.TheConstants.{EXIT, OPEN, CLOSE, READ, WRITE, LSEEK, DUP, UNLINK, YIELD}
+use Rattle.kernel_spec.specs.Io.{IoState}
+use Rattle.kernel_spec.proofs.PidLemmas.{length-set_pid}
+use Rattle.kernel_spec.specs.Kernel.{KernelState, Called, answers, exited}
+use Rattle.kernel_spec.specs.Calls.{call_result, call_row, read_typed, read_result, read_in, read_at, can_read, write_result, write_in, write_at, can_write, with_write, room_of, shown}
 use Rattle.one_node.specs.Machine.{MachineState, live_user, done_of, fallen, fallen_at, Served, served, served_at, answered, with_served}
 use Rattle.mosix_shell.specs.Turns.{served_machine}
 
@@ -61,7 +63,7 @@ full_keeps true k terminal value = refl
 full_keeps false k terminal value = refl
 
 write_in_keeps : (target : Target) (offset : ℕ) (k : KernelState) (pid fd : ℕ) (bytes : List ℕ) → CalledKeeps (write_in target offset k pid fd bytes) (length k.ends)
-write_in_keeps (File id) offset k pid fd bytes = big_keeps (nat_le 1048576 offset) k (with_write k.io pid fd id offset bytes) (pos (length (fitting offset bytes)))
+write_in_keeps (File id) offset k pid fd bytes = big_keeps (nat_le FILE_BYTES offset) k (with_write k.io pid fd id offset bytes) (pos (length (fitting offset bytes)))
 write_in_keeps TermOut offset k pid fd bytes = full_keeps (room_of k.terminal == 0) k (k.terminal ++ shown k.terminal bytes) (pos (length (shown k.terminal bytes)))
 write_in_keeps TermIn offset k pid fd bytes = refl
 write_in_keeps (ReadEnd pipe) offset k pid fd bytes = tt
@@ -72,36 +74,25 @@ write_keeps None k pid fd bytes = refl
 write_keeps (Some look) k pid fd bytes =
     moved_keeps (can_write look) (length bytes == 0) k (write_in look.target look.offset k pid fd bytes) (write_in_keeps look.target look.offset k pid fd bytes)
 
-io_keeps : (k : KernelState) (call : Option IoDone) → CalledKeeps (option_map (answers_io k) call) (length k.ends)
-io_keeps k None = tt
-io_keeps k (Some d) = refl
-
 exit_keeps : (k : KernelState) (pid code : ℕ) → CalledKeeps (Some (exited k pid code)) (length k.ends)
-exit_keeps k pid code = length-set k.ends (pid - 1) (Some (Exit (code % 256)))
+exit_keeps k pid code = length-set_pid k.ends pid (Some (Exit (code % 256)))
 
--- a choice of five
-row_keeps : (a b c d : Bool) (v w x y z : Option Called) (n : ℕ) → CalledKeeps v n → CalledKeeps w n → CalledKeeps x n → CalledKeeps y n → CalledKeeps z n → CalledKeeps (cond a v (cond b w (cond c x (cond d y z)))) n
-row_keeps true b c d v w x y z n p q r s t = p
-row_keeps false true c d v w x y z n p q r s t = q
-row_keeps false false true d v w x y z n p q r s t = r
-row_keeps false false false true v w x y z n p q r s t = s
-row_keeps false false false false v w x y z n p q r s t = t
+either_keeps : (b : Bool) (v w : Option Called) (n : ℕ) → CalledKeeps v n → CalledKeeps w n → CalledKeeps (cond b v w) n
+either_keeps true v w n p q = p
+either_keeps false v w n p q = q
 
 row_of_keeps : (number : ℕ) (k : KernelState) (pid : ℕ) (args bytes : List ℕ) → CalledKeeps (call_row number k pid args bytes) (length k.ends)
 unfolding call_row
 row_of_keeps number k pid args bytes =
-    row_keeps (number == 1) (number == 8) (number == 9) (number == 19)
-    (Some (exited k pid (slice_index args 0)))
-    (read_result k pid (slice_index args 0) (slice_index args 2))
-    (write_result k pid (slice_index args 0) bytes)
-    (Some (answers k (pos 0)))
-    (option_map (answers_io k) (io_row number k.io pid args bytes))
-    (length k.ends)
-    (exit_keeps k pid (slice_index args 0))
-    (read_keeps (look_at k.io.fds pid (slice_index args 0)) k pid (slice_index args 0) (slice_index args 2))
-    (write_keeps (look_at k.io.fds pid (slice_index args 0)) k pid (slice_index args 0) bytes)
-    refl
-    (io_keeps k (io_row number k.io pid args bytes))
+    either_keeps (number == EXIT) _ _ (length k.ends) (exit_keeps k pid (slice_index args 0))
+    (either_keeps (number == OPEN) _ _ (length k.ends) refl
+    (either_keeps (number == CLOSE) _ _ (length k.ends) refl
+    (either_keeps (number == READ) _ _ (length k.ends) (read_keeps (look_at k.io.fds pid (slice_index args 0)) k pid (slice_index args 0) (slice_index args 2))
+    (either_keeps (number == WRITE) _ _ (length k.ends) (write_keeps (look_at k.io.fds pid (slice_index args 0)) k pid (slice_index args 0) bytes)
+    (either_keeps (number == LSEEK) _ _ (length k.ends) refl
+    (either_keeps (number == DUP) _ _ (length k.ends) refl
+    (either_keeps (number == UNLINK) _ _ (length k.ends) refl
+    (either_keeps (number == YIELD) _ _ (length k.ends) refl tt))))))))
 
 call_keeps : (k : KernelState) (pid : ℕ) (asked : Request) → CalledKeeps (call_result k pid asked) (length k.ends)
 call_keeps k pid asked = row_of_keeps asked.number k pid asked.args asked.bytes
@@ -127,7 +118,7 @@ done_keeps m pid None = tt
 done_keeps m pid (Some u) = at_keeps m pid u (advance u)
 
 fault_keeps : (m : MachineState) (pid : ℕ) (w : Went) → Keeps (fallen_at m pid w) (length m.kernel.ends) (length m.users)
-fault_keeps m pid (Faults signal) = (length-set m.kernel.ends (pid - 1) _, refl)
+fault_keeps m pid (Faults signal) = (length-set_pid m.kernel.ends pid _, refl)
 fault_keeps m pid (Done v) = tt
 fault_keeps m pid AtCall = tt
 

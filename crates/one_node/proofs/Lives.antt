@@ -9,12 +9,12 @@ use Rattle.std.specs.Option.{option_map, option_and_then}
 use Rattle.user_spec.specs.User.{UserState}
 use Rattle.user_spec.specs.Request.{call_request, returned}
 use Rattle.user_spec.specs.Advance.{Went, Done, AtCall, Faults, advance, request_of, asked_at, grows}
-use Rattle.kernel_spec.specs.Kernel.{KernelState, Called, with_process, with_end}
+use Rattle.kernel_spec.specs.Kernel.{KernelState, Called, is_live, with_process, with_end}
 use Rattle.kernel_spec.specs.Calls.{call_result}
 use Rattle.one_node.specs.Machine.{MachineState, if_live, live_user, with_user, Served, served, served_at, answered, with_served, done_of, fallen, fallen_at, launched, can_launch, next_pid}
-use Rattle.kernel_spec.specs.Processes.{at_pid}
+use Rattle.kernel_spec.specs.Processes.{at_pid, is_live_end}
 use Rattle.one_node.specs.declared.going.Ran.{Ran}
-use Rattle.home_kernel.specs.Serving.{IsLive, is_live, is_live_end, Launches}
+use Rattle.home_kernel.specs.Serving.{IsLive, Launches}
 use Rattle.one_node.specs.Going.{fault_of, signal_in, Goes, GoesAt, GoesOn, ServesAt}
 use Rattle.one_node.proofs.Quanta.{grows_done}
 

@@ -2,50 +2,17 @@
 use Rattle.std.proofs.Common.{◌≡◌, ◌≢◌, ℕ, zero, suc, ◌+◌, ◌-◌, ◌<◌, ◌≤◌, ◌^◌, refl, ap, ◌∙◌, sym, subst, arith, Option, Some, None, Bool, true, false, nat_le, cond, ◌&&◌, ◌||◌, ◌==◌, not, slice_index}
 use Rattle.std.proofs.lemmas.Bool.Decides.{nat_tests}
 use Rattle.std.proofs.lemmas.Option.{none-some}
-use Rattle.user_ctx.specs.declared.stop.Stop.{Stop}
-use Rattle.user_ctx.specs.declared.stop.Stop.TheVariants as stops
+use Rattle.user_spec.specs.declared.outcome.Stop.{Stop}
+use Rattle.user_spec.specs.declared.outcome.Stop.TheVariants as stops
 use Rattle.user_ctx.specs.Stopping.{StopsAt}
+use Rattle.user_ctx.proofs.Calls.{grows_done}
 use Rattle.one_node.specs.declared.going.Ran.TheVariants.{Steps, Asks}
 use Rattle.one_node.specs.Going.{Goes, fault_of, signal_in}
 use Rattle.call_table.specs.Calls.{is_site_local}
 use Rattle.call_table.specs.declared.request.Request.{Request}
 use Rattle.user_spec.specs.User.{UserState}
-use Rattle.user_spec.specs.Instruction.{Ran, RanTo, RanAtCall, RanFaults, one_instruction}
 use Rattle.user_spec.specs.Request.{number_of, args_of, break_maps, has_buffer, local_call}
 use Rattle.user_spec.specs.Advance.{Went, Done, AtCall, Faults, advance, advanced, on_done, Walk, walked, walk_on, stays, one_more, quantum_of, grows, user_after, is_at_ecall, core_of, counted, went_of, at_call, request_of, asked_at, asked_number}
-
-both_first : (a b : Bool) → (a && b) ≡ true → a ≡ true
-both_first true b h = refl
-both_first false b h = h
-
-both_second : (a b : Bool) → (a && b) ≡ true → b ≡ true
-both_second true b h = h
-both_second false b h = cc
-
-not_is : (b : Bool) → not b ≡ true → b ≡ false
-not_is true h = sym h
-not_is false h = refl
-
-at_ecall : (r : Ran) → is_at_ecall r ≡ true → r ≡ RanAtCall
-at_ecall RanAtCall h = refl
-at_ecall (RanTo c) h = cc
-at_ecall (RanFaults signal) h = cc
-
-is_same : (a b : ℕ) → (a == b) ≡ true → a ≡ b
-is_same a b h = grind (arith, nat_tests)
-
--- a growth is a call that ends where the process runs
-pub grows_done : (u : UserState) → grows u ≡ true → advance u ≡ Done (counted (local_call u))
-grows_done u h =
-    let full = nat_le (2 ^ 26) u.count in
-    let r = one_instruction (core_of u) in
-    let brk = break_maps u (slice_index (args_of u) 0) in
-    let later = both_second (not full) (is_at_ecall r && ((number_of u == 18) && brk)) h in
-    let ecall = at_ecall r (both_first (is_at_ecall r) ((number_of u == 18) && brk) later) in
-    let number = is_same (number_of u) 18 (both_first (number_of u == 18) brk (both_second (is_at_ecall r) ((number_of u == 18) && brk) later)) in
-    ap (λ b. cond b (Faults 24) (went_of u r)) (not_is full (both_first (not full) (is_at_ecall r && ((number_of u == 18) && brk)) h))
-    ∙ ap (went_of u) ecall
-    ∙ ap (λ n. cond (is_site_local n || not (has_buffer u)) (Done (counted (local_call u))) AtCall) number
 
 -- what does not step does not grow
 no_growth : (u : UserState) (b : Bool) → grows u ≡ b → ((v : UserState) → advance u ≢ Done v) → b ≡ false
