@@ -5,9 +5,7 @@ use Rattle.std.proofs.lemmas.List.Edits.{length-remove}
 use Rattle.std.proofs.lemmas.List.Sums.{sum_by_push, sum_by-remove}
 use Rattle.std.specs.List.{sum_by, position, remove}
 use Rattle.std.specs.Option.{unwrap_or, is_some, IsNone}
-use Rattle.std.specs.Ordering.{nat_cmp}
 use Rattle.std.specs.FinMap as map
-use Rattle.migrate_proto.specs.declared.reserve.Decision.{Decision}
 use Rattle.migrate_proto.specs.declared.reserve.Decision.TheVariants.{Allow, Deny}
 use Rattle.migrate_proto.specs.Reservations.{Apart, IsKept, reserved_pages, decision}
 use Rattle.migrate_proto.proofs.MapLemmas.{Entries, Map, found, pages_of, found_there, apart_removed, apart_pushed, got, inserted, landed, not_landed, counted, summed, at_place, placed}

@@ -1,5 +1,5 @@
 -- What a node answers to an order to move.
-use Rattle.std.specs.Prelude.{ℕ, Bool, true, false, ◌==◌, Option, Some, None, if◌then◌else◌}
+use Rattle.std.specs.Prelude.{ℕ, Bool, ◌==◌, Option, Some, None, if◌then◌else◌}
 use Rattle.call_forward.specs.declared.state.State.{State}
 use Rattle.call_forward.specs.declared.state.State.TheVariants.{Running, Waiting, Asking}
 use Rattle.migrate_proto.specs.declared.go.GoAnswer.{GoAnswer}

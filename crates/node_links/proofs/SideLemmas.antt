@@ -1,10 +1,10 @@
 -- A node more: a side for it, and a carrier towards it in each of the others.
 use Rattle.std.proofs.Common.{◌≡◌, ◌≢◌, ℕ, zero, suc, ◌+◌, ◌<◌, ◌≤◌, ◌==◌, ◌++◌, ◌⊎◌, inl, inr, Bool, true, false, cond, not, ◌||◌, Option, Some, None, List, [], ◌∷◌, refl, sym, ap, ◌∙◌, subst, arith, length, map, get_or, slice_get, slice_set, length-append}
 use Rattle.std.proofs.lemmas.Bool.{cases_eq, cases_order, eq-eqb, ne_eqb}
-use Rattle.std.proofs.lemmas.List.{append-nil, map-append}
+use Rattle.std.proofs.lemmas.List.{append-nil}
 use Rattle.std.specs.Option.{option_and_then}
 use Rattle.node_links.specs.declared.side.Towards.{Towards}
-use Rattle.node_links.specs.Sides.{is_linked, led_to, carrier_to, carrier_of, InPairs, EachIs, IsGrown}
+use Rattle.node_links.specs.Sides.{is_linked, led_to, carrier_to, carrier_of, EachIs, IsGrown}
 
 -- ---- lists with one more at the end, or one set
 

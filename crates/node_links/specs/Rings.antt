@@ -1,5 +1,5 @@
 -- Carriers over rings.
-use Rattle.std.specs.Prelude.{◌≡◌, ℕ, List, []}
+use Rattle.std.specs.Prelude.{◌≡◌, []}
 use Rattle.node_links.specs.Links.{letters_put, letters_taken, known_letters, free_slots, IsLink}
 use Rattle.node_links.specs.declared.ring.RingCarrier.{RingCarrier}
 
