@@ -1,0 +1,5 @@
+pub mod NumberLemmas
+pub mod LineLemmas
+pub mod WordLemmas
+pub mod TextLemmas
+pub mod ReadLemmas
