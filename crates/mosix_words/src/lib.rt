@@ -6,3 +6,6 @@ mod number;
 mod settings;
 
 pub use settings::{Mode, Settings, WordsError, mode_of};
+
+#[cfg(test)]
+mod tests;

@@ -47,7 +47,7 @@ word_first : (b : ℕ) (bs : List ℕ) → is_blank b ≡ false → words_of (b 
 word_first b bs f =
     let more = parted (b ∷ bs) in
     let first : is_word (take (position_or_len is_blank (b ∷ bs)) (b ∷ bs)) ≡ true =
-      rw f (ap is_word (take_one_more (position_or_len is_blank bs) b bs) ∙ longer (b ∷ take (position_or_len is_blank bs) bs) (omega arith)) in
+    rw f (ap is_word (take_one_more (position_or_len is_blank bs) b bs) ∙ longer (b ∷ take (position_or_len is_blank bs) bs) (omega arith)) in
     ap (filter is_word) more.parts ∙ ap (λ t. cond t (take (position_or_len is_blank (b ∷ bs)) (b ∷ bs) ∷ filter is_word more.tail) (filter is_word more.tail)) first
     ∙ ap (λ ws. take (position_or_len is_blank (b ∷ bs)) (b ∷ bs) ∷ ws) more.words
 

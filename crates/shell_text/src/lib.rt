@@ -10,3 +10,6 @@ mod script;
 
 pub use fault::{FaultKind, ScriptError};
 pub use script::read_script;
+
+#[cfg(test)]
+mod tests;
