@@ -1,5 +1,5 @@
 -- What the command takes and refuses, as settings.
-use Rattle.std.proofs.Common.{◌≡◌, ◌≢◌, ℕ, List, [], ◌∷◌, length, refl, ap, sym, ◌∙◌, arith, Bool, true, false, cond, eqb, Option, Some, None, inl, inr}
+use Rattle.std.proofs.Common.{◌≡◌, ◌≢◌, List, [], ◌∷◌, length, refl, ap, sym, ◌∙◌, arith, true, false, cond, eqb, None, inl, inr}
 use Rattle.std.proofs.lemmas.Bool.{ne_eqb}
 use Rattle.clap.specs.Words.{Text, HasMatchesOf, HasKind, IsAmong, Kinds, fault_of, matches_of, rows_of, found_of, kind_of, is_simple}
 use Rattle.clap.specs.declared.error.Error.{Error}

@@ -1,5 +1,5 @@
 -- The command: five options of one value, two flags and one required word, without flags for help and for the version.
-use Rattle.std.specs.Prelude.{List, [], ◌∷◌, Some, true, codes}
+use Rattle.std.specs.Prelude.{Some, true, codes}
 use Rattle.clap.specs.Words.{App, Rule, Text, new_app, new_rule, with_rule}
 use Rattle.clap.specs.Simple.{on_top}
 use Rattle.clap.specs.declared.builder.action.ArgAction.TheVariants.{Set, SetTrue}

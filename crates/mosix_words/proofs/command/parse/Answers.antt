@@ -1,5 +1,5 @@
-use Rattle.std.proofs.Common.{◌≡◌, subst, sym, refl, map, true, ap, ◌∙◌}
-use Rattle.clap.specs.Words.{App, FailsBy, fault_of, is_simple_and_free, app_of}
+use Rattle.std.proofs.Common.{◌≡◌, subst, refl, map, true, ap, ◌∙◌}
+use Rattle.clap.specs.Words.{App, FailsBy, fault_of, is_simple_and_free}
 use Rattle.mosix_words.specs.Command.{the_app}
 use Rattle.mosix_words.proofs.command.parse.Goals as goal
 
