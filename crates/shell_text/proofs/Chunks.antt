@@ -1,5 +1,5 @@
 -- Bytes in pieces.
-use Rattle.std.proofs.Common.{◌≡◌, ℕ, zero, suc, ◌+◌, ◌-◌, ◌<◌, ◌≤◌, min, List, [], ◌∷◌, length, take, drop, refl, ap, ◌∙◌, sym, subst, arith, Bool, true, false, cond, eqb, inl, inr}
+use Rattle.std.proofs.Common.{◌≡◌, ℕ, zero, suc, ◌<◌, ◌≤◌, min, List, [], ◌∷◌, length, take, drop, refl, ap, ◌∙◌, sym, arith, cond, eqb, inl, inr}
 use Rattle.std.proofs.lemmas.Bool.{ne_eqb, cases_lt}
 use Rattle.std.proofs.lemmas.List.{length-drop, drop_all, take_all}
 use Rattle.shell_text.specs.Report.{chunks_from, chunks_of}

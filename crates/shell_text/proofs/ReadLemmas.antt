@@ -1,6 +1,5 @@
 -- One line after the other.
-use Rattle.std.proofs.Common.{◌≡◌, ℕ, List, [], ◌∷◌, refl, ap, ◌∙◌, Result, Ok, Err}
-use Rattle.node_event.specs.declared.script.ScriptLine.{ScriptLine}
+use Rattle.std.proofs.Common.{◌≡◌, ℕ, List, [], ◌∷◌, ap, ◌∙◌, Result, Ok}
 use Rattle.shell_text.specs.declared.fault.ScriptError.{ScriptError}
 use Rattle.shell_text.specs.declared.fault.ScriptError.TheVariants.{Fault, NoMemory}
 use Rattle.shell_text.specs.declared.script.Reader.{Reader}

@@ -1,9 +1,9 @@
 -- The first word of a line, and those behind it.
-use Rattle.std.proofs.Common.{◌≡◌, ℕ, zero, suc, ◌+◌, ◌-◌, ◌<◌, ◌≤◌, List, [], ◌∷◌, length, take, drop, refl, ap, sym, ◌∙◌, subst, arith, Bool, true, false, cond, eqb, not, inl, inr}
+use Rattle.std.proofs.Common.{◌≡◌, ℕ, suc, ◌+◌, ◌<◌, List, [], ◌∷◌, length, take, drop, refl, ap, sym, ◌∙◌, subst, arith, Bool, true, false, cond, eqb, not, inl, inr}
 use Rattle.std.specs.List.{slice_split, prefix_len, position_or_len, onto_first, filter, list_all}
 use Rattle.std.proofs.lemmas.Bool.{cases_Bool, ne_eqb}
 use Rattle.std.proofs.lemmas.List.{length-drop}
-use Rattle.shell_text.specs.Lexing.{is_blank, is_text_byte, is_word, words_of, past_blanks, behind_first, behind_word}
+use Rattle.shell_text.specs.Lexing.{is_blank, is_text_byte, is_word, words_of, past_blanks, behind_first}
 use Rattle.shell_text.proofs.TextLemmas.{text_take, text_drop}
 
 take_one_more : (n b : ℕ) (bs : List ℕ) → take (1 + n) (b ∷ bs) ≡ b ∷ take n bs

@@ -1,5 +1,7 @@
 use super::*;
-use node_event::{Order, Script, ScriptLine};
+use call_table::{Bytes, Named, NamedFiles, NoMemory, PidState, Replies, Statuses};
+use node_event::{Event, Events, Kept, Order, Refusal, Script, ScriptLine, Unsent, What};
+use outside::{Calls, MemSink};
 use std::alloc::Global;
 use std::test::Fail;
 
@@ -197,4 +199,129 @@ fn nodes(rt: HostRuntime) {
     ] {
         assert!(rt; count_on(alloc, bytes.as_slice(), nodes).is_ok() == is_fine);
     }
+}
+
+const fn command(line: u32, launched: Option<u32>, unsent: Option<Unsent>) -> What {
+    What::Command {
+        line,
+        launched,
+        unsent,
+        poked: None,
+    }
+}
+
+const fn refused(pid: u32, to: u8, why: Refusal, line: u32) -> What {
+    What::Refused { pid, to, why, line }
+}
+
+/// What happened: an event of each kind that prints an outcome, and one move without an outcome.
+fn happened() -> [What; 11] {
+    [
+        command(1, Some(1), None),
+        What::Land { pid: 1, source: 0 },
+        What::Stay {
+            pid: 2,
+            to: 1,
+            need: 17,
+            free: 16,
+        },
+        refused(1, 1, Refusal::Moving, 3),
+        refused(1, 0, Refusal::There, 4),
+        refused(3, 1, Refusal::Ended, 9),
+        What::Got {
+            pid: 1,
+            child: None,
+            ended: true,
+            kept: Some(Kept::Ended),
+            to: Some(2),
+        },
+        command(5, None, Some(Unsent::Ended)),
+        command(6, None, Some(Unsent::Never)),
+        command(7, None, None),
+        What::Keep {
+            pid: 2,
+            to: 1,
+            line: 7,
+        },
+    ]
+}
+
+const SCRIPT: &[u8] = b"run a\n#\nmove 1 1\nmove 1 0\nmove 1 3\nmove 7 1\nmove 2 1\nmove 3 1";
+
+const REPORT: &[u8] =
+    b"terminal 3\nhi\n\nprocess 1 exit 0\nprocess 2 blocked 8\nprocess 3 signal 11\nprocess 4 live\n\
+file f 2\nxy\nmove 1 0 1\nrefused 2 1 pages 17 16\nrefused 1 1 moving\nstay 1 0\nrefused 3 1 ended\nrefused 1 2 ended\n\
+refused 1 3 ended\nnone 7\nopen 2 1\nfull 0\nevents 11\n1 1 command 1 1 - -\n2 1 land 1 0\n3 1 stay 2 1 17 16\n\
+4 1 refused 1 1 moving 3\n5 1 refused 1 0 there 4\n6 1 refused 3 1 ended 9\n7 1 got 1 - 1 ended 2\n\
+8 1 command 5 - ended -\n9 1 command 6 - none -\n10 1 command 7 - - -\n11 1 keep 2 1 7\n";
+
+fn events_of(alloc: Global) -> Result<Events, NoMemory> {
+    let mut events = Events::new(alloc);
+    for (at, what) in happened().iter().enumerate() {
+        events.push(Event {
+            stamp: at as u64 + 1,
+            node: 1,
+            what: *what,
+        })?;
+    }
+    Ok(events)
+}
+
+fn run_of(alloc: Global) -> Result<Run, NoMemory> {
+    let mut statuses = Statuses::new(alloc);
+    for status in [
+        (1, PidState::Exit(0)),
+        (2, PidState::Blocked(8)),
+        (3, PidState::Signal(11)),
+        (4, PidState::Live),
+    ] {
+        statuses.push(status)?;
+    }
+    let mut files = NamedFiles::new(alloc);
+    files.push(Named {
+        name: Bytes::from_slice(alloc, b"f")?,
+        bytes: Bytes::from_slice(alloc, b"xy")?,
+    })?;
+    Ok(Run {
+        events: events_of(alloc)?,
+        statuses,
+        terminal: Bytes::from_slice(alloc, b"hi\n")?,
+        files,
+        replies: Replies::new(alloc),
+        last: Last::Full(0),
+    })
+}
+
+/// What a sink gets that fails at a call, or at none, and whether all was printed.
+fn printed(alloc: Global, fails: u64) -> Result<(MemSink, bool), NoMemory> {
+    let run = run_of(alloc)?;
+    let Ok(script) = read_script(alloc, SCRIPT, 4) else {
+        return Err(NoMemory);
+    };
+    let mut calls = Calls::new(alloc);
+    calls.push(fails)?;
+    let mut out = MemSink::new(alloc, calls, 4096)?;
+    let is_done = print_report(alloc, &run, &script, true, &mut out).is_ok();
+    Ok((out, is_done))
+}
+
+#[test]
+fn each_kind_of_line(rt: HostRuntime) -> Result<(), Fail> {
+    let (out, is_done) = printed(rt.alloc(), 0)?;
+    assert!(rt; is_done);
+    assert!(rt; out.bytes() == REPORT);
+    Ok(())
+}
+
+/// A call that fails, and how many bytes stand before it.
+const FRONTS: [(u64, usize); 6] = [(1, 0), (2, 11), (3, 14), (4, 15), (9, 96), (11, 99)];
+
+#[test]
+fn a_call_for_each_write(rt: HostRuntime) -> Result<(), Fail> {
+    for (fails, count) in FRONTS.iter() {
+        let (out, is_done) = printed(rt.alloc(), *fails)?;
+        assert!(rt; !is_done);
+        assert!(rt; out.bytes() == &REPORT[..*count], "at call {fails}");
+    }
+    Ok(())
 }
