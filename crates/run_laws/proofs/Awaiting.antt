@@ -9,7 +9,7 @@ use Rattle.run_laws.specs.Carried.{posted_on, taken_on}
 use Rattle.run_laws.specs.Due.{Same, Untaken}
 
 module _ (O : Ops) where
-  lies : (h : List (Turn O)) (w : World O) → Reached O h w → (a b : ℕ) → taken_on O a b h ++ w.links a b ≡ posted_on O a b h
+  pub lies : (h : List (Turn O)) (w : World O) → Reached O h w → (a b : ℕ) → taken_on O a b h ++ w.links a b ≡ posted_on O a b h
   lies [] w r a b = r.links a b
   lies (t ∷ h) v r a b =
       let front = at_front O t.taken a b in

@@ -1,7 +1,7 @@
 -- Each refusal of a move that is under way has such a move, and each decision is on the machine's pages.
 use Rattle.std.proofs.Common.{◌≡◌, ℕ, zero, suc, ◌+◌, ◌<◌, ◌≤◌, ◌⊎◌, inl, inr, Bool, true, false, not, Option, Some, None, List, [], ◌∷◌, refl, sym, ap, ◌∙◌, subst, arith}
 use Rattle.run_tokens.specs.Ops.{Ops, Sound}
-use Rattle.run_tokens.specs.Deeds.{Gone, Moving, There, Deed, Run, Kill, Bid, Unsent, Other, Steps, Sent, Heed, Held, Served, Got, Poked, Begin, Keep, Missed, Again, Allows, Denies, Depart, Stay, Land, Told, Refused, Closed, Strange, Noted, pid_of}
+use Rattle.run_tokens.specs.Deeds.{Gone, Moving, There, Deed, Run, Kill, Bid, Unsent, Other, Steps, Sent, Heed, Held, Served, Got, Poked, Begin, Keep, Missed, Again, Allows, Denies, Depart, Stay, Land, Told, Refused, Closed, Gossips, Strange, Noted, pid_of}
 use Rattle.run_tokens.specs.Notes.{Turn, Body, Kept, Running, Waiting, Asking, context}
 use Rattle.run_tokens.specs.Spots.{Spot, Nowhere, Runs, Calls, Holds, Pauses, Answered, Asks, Granted, Denied, Travels, InReply, Ended}
 use Rattle.run_tokens.specs.Cluster.{World}
@@ -200,7 +200,7 @@ module _ (O : Ops) (S : Sound O) where
       grounded_at : (what : Deed) → t.event.what ≡ what → Does O what n (w.nodes n) t (v.nodes n) → Needs O what n (w.nodes n) (v.nodes n) (sp (pid_of what)) st.own → GroundedAt O what n es m
       grounded_at (Run line i p) is d need = tt
       grounded_at (Kill line p g poked) is d need = tt
-      grounded_at (Bid line p to) is d need = tt
+      grounded_at (Bid line p to) is d need = ap (λ (k : O.Kernel). O.live k p) (sym (kernel_at need.is.why.0)) ∙ need.is.why.1
       grounded_at (Unsent line p never) is d need = subst (λ (k : O.Kernel). UnsentFor O never k p) (kernel_at need.is.why.0) need.is.why.1
       grounded_at (Other line input) is d need = tt
       grounded_at (Steps p k) is d need = tt
@@ -210,7 +210,7 @@ module _ (O : Ops) (S : Sound O) where
       grounded_at (Served p manner number value child signal ends more poked) is d need = tt
       grounded_at (Got p child ended kept) is d need = got_ended ended p child kept need.is
       grounded_at (Poked p used) is d need = tt
-      grounded_at (Begin p to line) is d need = tt
+      grounded_at (Begin p to reason) is d need = tt
       grounded_at (Keep p to line) is d need = tt
       grounded_at (Missed p to line) is d need = tt
       grounded_at (Again p to place line) is d need = tt
@@ -224,6 +224,7 @@ module _ (O : Ops) (S : Sound O) where
       grounded_at (Refused p to Moving line) is d need = refused p to line is d
       grounded_at (Refused p to There line) is d need = there p to line d
       grounded_at (Closed line) is d need = closed line d
+      grounded_at (Gossips heard other) is d need = tt
       grounded_at (Strange p) is d need = tt
 
     grounded_next : With (machine_at O es) (λ m. GroundedAt O t.event.what t.event.node es m)

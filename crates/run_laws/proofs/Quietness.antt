@@ -13,7 +13,7 @@ use Rattle.run_tokens.specs.Notes.{Call, Pause, Reply, Ask, Allow, Deny, Move, P
 use Rattle.run_tokens.specs.Spots.{Spot, Nowhere, Runs, Calls, Holds, Pauses, Answered, Asks, Granted, Denied, Travels, InReply, Ended, call_at, slot_by, way_by}
 use Rattle.run_tokens.specs.Cluster.{World, Goes, at_front, events}
 use Rattle.run_tokens.specs.Needs.{brings, Right, alive}
-use Rattle.run_tokens.specs.Rests.{Kind, Retry, RunOn, NextLine, AllRest}
+use Rattle.run_tokens.specs.Rests.{Kind, Retry, RunOn, NextLine, SendHalf, IsHalf, AllRest}
 use Rattle.run_tokens.proofs.Talk.{same_numbers, numbers_same, talk, on_link}
 use Rattle.run_tokens.proofs.Process.{cond_here}
 use Rattle.run_tokens.proofs.Stand.{Stands, Path}
@@ -240,12 +240,13 @@ module _ (O : Ops) (S : Sound O) where
 
   -- where a run is done no node has anything to do without a letter
   module _ (h : List (Turn O)) (sp : ℕ → Spot O) (w : World O) (path : Path O S h sp w) (m : MachineState O) (agrees : Agrees O S h sp (w.nodes 0) m) where
-    pub done_rests : IsDone O (events O h) m → (k : Kind) (n : ℕ) → DueAs O k n (events O h) m → ⊥
-    done_rests d (Retry p) n x =
+    pub done_rests : IsDone O (events O h) m → (k : Kind) (n : ℕ) → (IsHalf k → ⊥) → DueAs O k n (events O h) m → ⊥
+    done_rests d (SendHalf other) n f x = f tt
+    done_rests d (Retry p) n f x =
         let t = held_spot O S (sp p) (sym (ap is_held (path_tells O S h sp w path p)) ∙ x.1.held) in
         let z : false ≡ true = sym (d.ended p) ∙ (agrees.alive p ∙ ap (alive O) t.4) in cc
-    done_rests d (RunOn p) n x = let z : false ≡ true = sym (d.ended p) ∙ x.live in cc
-    done_rests d NextLine n x = let within = slice_get_within O.script (commands (events O h)) x.1.line x.1.next in omega (arith, within, d.script)
+    done_rests d (RunOn p) n f x = let z : false ≡ true = sym (d.ended p) ∙ x.live in cc
+    done_rests d NextLine n f x = let within = slice_get_within O.script (commands (events O h)) x.1.line x.1.next in omega (arith, within, d.script)
 
   -- where all rests no turn is made
   pub no_turn : (h : List (Turn O)) (sp : ℕ → Spot O) (w : World O) → Path O S h sp w → Stands O S sp w → 1 ≤ O.nodes → AllRest O w → (t : Turn O) (v : World O) → Goes O w t v → ⊥

@@ -2,7 +2,7 @@
 use Rattle.std.proofs.Common.{◌≡◌, ◌≢◌, ℕ, ◌==◌, inl, inr, Bool, true, false, not, cond, Option, Some, None, List, refl, sym, ap, ◌∙◌, subst}
 use Rattle.std.specs.Prelude.{nat_lt, ℤ}
 use Rattle.run_tokens.specs.Ops.{Ops, Sound, is_child}
-use Rattle.run_tokens.specs.Deeds.{Manner, Did, Broke, Fell, Paused, Deed, Run, Kill, Bid, Unsent, Other, Steps, Sent, Heed, Held, Served, Got, Poked, Begin, Keep, Missed, Again, Allows, Denies, Depart, Stay, Land, Told, Refused, Closed, Strange}
+use Rattle.run_tokens.specs.Deeds.{Manner, Did, Broke, Fell, Paused, Deed, Run, Kill, Bid, Unsent, Other, Steps, Sent, Heed, Held, Served, Got, Poked, Begin, Keep, Missed, Again, Allows, Denies, Depart, Stay, Land, Told, Refused, Closed, Gossips, Strange}
 use Rattle.run_tokens.specs.Notes.{Slot, Local}
 use Rattle.run_tokens.specs.Spots.{Spot}
 use Rattle.run_tokens.specs.Home.{First, last, last_by, Acts, unheld, to_poke, both, in_order, other_than}
@@ -113,7 +113,7 @@ module _ (O : Ops) (S : Sound O) where
     silent_law (Served p manner number value child signal ends more poked) d = so_silent manner p number value child signal ends more poked d
     silent_law (Got p child ended kept) d = tt
     silent_law (Poked p used) d = tt
-    silent_law (Begin p to line) d = tt
+    silent_law (Begin p to reason) d = tt
     silent_law (Keep p to line) d = tt
     silent_law (Missed p to line) d = tt
     silent_law (Again p to place line) d = tt
@@ -125,4 +125,5 @@ module _ (O : Ops) (S : Sound O) where
     silent_law (Told p at source hops line poked) d = tt
     silent_law (Refused p to why line) d = tt
     silent_law (Closed line) d = tt
+    silent_law (Gossips heard other) d = tt
     silent_law (Strange p) d = tt

@@ -39,6 +39,8 @@ hello_lawful = record {
   signal = (tt, (record { takes = refl; more_is = refl }, (tt, (tt, (tt, (record { takes = refl; more_is = refl }, (tt, (tt, (tt, tt)))))))));
   poke = (tt, (refl, (tt, (tt, (tt, (refl, (tt, (tt, (tt, tt)))))))));
   heed = (tt, (tt, (refl, (refl, (tt, (tt, (refl, (refl, (tt, tt)))))))));
+  gossip = (tt, (tt, (tt, ((λ z. omega arith), (tt, (tt, (tt, ((λ z. omega arith), (tt, tt)))))))));
+  choice = (tt, (tt, (tt, (tt, (tt, (tt, (tt, (tt, (tt, tt)))))))));
 }
 
 pub fork_lawful : Lawful forker (read fork_script fork_events)
@@ -51,6 +53,8 @@ fork_lawful = record {
   signal = (tt, (record { takes = refl; more_is = refl }, (tt, (tt, (record { takes = refl; more_is = refl }, (tt, (tt, tt)))))));
   poke = (tt, (refl, (tt, (tt, (refl, (tt, (tt, tt)))))));
   heed = (tt, (tt, (refl, (tt, (tt, (refl, (tt, tt)))))));
+  gossip = (tt, (tt, (tt, (tt, (tt, (tt, (tt, tt)))))));
+  choice = (tt, (tt, (tt, (tt, (tt, (tt, (tt, tt)))))));
 }
 
 pub move_lawful : Lawful mover (read move_script move_events)
@@ -63,6 +67,8 @@ move_lawful = record {
   signal = (tt, (tt, (tt, (tt, (tt, (tt, (tt, (tt, tt))))))));
   poke = (tt, (refl, (tt, (tt, (tt, (tt, (tt, (tt, tt))))))));
   heed = (refl, (tt, (tt, (tt, (tt, (tt, (tt, (tt, tt))))))));
+  gossip = ((λ z. omega arith), (tt, (tt, (tt, (tt, (tt, (tt, (tt, tt))))))));
+  choice = (tt, (tt, (tt, (tt, (tt, (tt, (tt, (tt, tt))))))));
 }
 
 pub break_lawful : Lawful breaker (read break_script break_events)
@@ -75,6 +81,8 @@ break_lawful = record {
   signal = (tt, (record { takes = refl; more_is = refl }, (tt, (tt, (tt, (tt, tt))))));
   poke = (tt, (refl, (refl, (tt, (tt, (tt, tt))))));
   heed = (tt, (tt, (tt, (tt, (refl, (tt, tt))))));
+  gossip = (tt, (tt, (tt, (tt, (tt, (tt, tt))))));
+  choice = (tt, (tt, (tt, (tt, (tt, (tt, tt))))));
 }
 
 pub poke_lawful : Lawful poker (read poke_script poke_events)
@@ -87,6 +95,8 @@ poke_lawful = record {
   signal = (tt, (tt, (record { takes = refl; more_is = refl }, (tt, (tt, (tt, (tt, tt)))))));
   poke = (tt, (tt, (refl, (tt, (tt, (refl, (tt, tt)))))));
   heed = (refl, (tt, (tt, (refl, ((refl, refl), (tt, (tt, tt)))))));
+  gossip = ((λ z. omega arith), (tt, (tt, (tt, (tt, (tt, (tt, tt)))))));
+  choice = (tt, (tt, (tt, (tt, (tt, (tt, (tt, tt)))))));
 }
 
 -- the last one may be left out: what is left is a beginning of the run

@@ -2,7 +2,7 @@
 use Rattle.std.proofs.Common.{◌≡◌, ◌≢◌, ◌<◌, ◌&&◌, ◌⊎◌, inl, inr, ℕ, Bool, true, false, not, cond, Option, Some, None, List, ◌+◌, refl, sym, ap, ◌∙◌, subst}
 use Rattle.std.specs.Prelude.{ℤ}
 use Rattle.run_tokens.specs.Ops.{Ops, Sound, Took, is_child, typed, counted, lives_in}
-use Rattle.run_tokens.specs.Deeds.{Manner, Did, Broke, Fell, Paused, Deed, Run, Kill, Bid, Unsent, Other, Steps, Sent, Heed, Held, Served, Got, Poked, Begin, Keep, Missed, Again, Allows, Denies, Depart, Stay, Land, Told, Refused, Closed, Strange, pid_of, child_of, Input, Text, Finish, Nothing}
+use Rattle.run_tokens.specs.Deeds.{Manner, Did, Broke, Fell, Paused, Deed, Run, Kill, Bid, Unsent, Other, Steps, Sent, Heed, Held, Served, Got, Poked, Begin, Keep, Missed, Again, Allows, Denies, Depart, Stay, Land, Told, Refused, Closed, Gossips, Strange, pid_of, child_of, Input, Text, Finish, Nothing}
 use Rattle.run_tokens.specs.Notes.{Done, Body, Kept, Local}
 use Rattle.run_tokens.specs.Spots.{Spot, Nowhere, Runs, Calls, Holds, Pauses, Answered, Asks, Granted, Denied, Travels, InReply, Ended}
 use Rattle.run_tokens.specs.Home.{First, last, last_by, Acts, returned, after, forwards, fits_entered, fits_done, done_of}
@@ -136,7 +136,7 @@ module _ (O : Ops) (S : Sound O) where
   born_plain (Served p manner number value child signal ends more poked) n s c e = (tt, refl)
   born_plain (Got p child ended kept) n s c e = (tt, refl)
   born_plain (Poked p used) n s c e = absurd cc
-  born_plain (Begin p to line) n s c e = absurd cc
+  born_plain (Begin p to reason) n s c e = absurd cc
   born_plain (Keep p to line) n s c e = absurd cc
   born_plain (Missed p to line) n s c e = absurd cc
   born_plain (Again p to place line) n s c e = absurd cc
@@ -148,6 +148,7 @@ module _ (O : Ops) (S : Sound O) where
   born_plain (Told p at source hops line poked) n s c e = absurd cc
   born_plain (Refused p to why line) n s c e = absurd cc
   born_plain (Closed line) n s c e = absurd cc
+  born_plain (Gossips heard other) n s c e = absurd cc
   born_plain (Strange p) n s c e = absurd cc
 
   few_acts : (m : Manner) (k : O.Kernel) (p : ℕ) (r : O.Request) (f : First O) (c : ℕ) → Acts O m k p r f → f.child ≡ Some c → lives_in O k < 64
@@ -184,7 +185,7 @@ module _ (O : Ops) (S : Sound O) where
     grows_few (Served p manner number value child signal ends more poked) d = so_few manner p number value child signal ends more poked d
     grows_few (Got p child ended kept) d = inl (ap O.count d.kernel)
     grows_few (Poked p used) d = inl (ap O.count d.kernel)
-    grows_few (Begin p to line) d = inl (ap O.count d.kernel)
+    grows_few (Begin p to reason) d = inl (ap O.count d.kernel)
     grows_few (Keep p to line) d = inl (ap O.count d.kernel)
     grows_few (Missed p to line) d = inl (ap O.count d.kernel)
     grows_few (Again p to place line) d = inl (ap O.count d.kernel)
@@ -196,6 +197,7 @@ module _ (O : Ops) (S : Sound O) where
     grows_few (Told p at source hops line poked) d = inl (ap O.count d.kernel)
     grows_few (Refused p to why line) d = inl (ap O.count d.kernel)
     grows_few (Closed line) d = inl (ap O.count d.kernel)
+    grows_few (Gossips heard other) d = inl (ap O.count d.kernel)
     grows_few (Strange p) d = absurd d
 
     -- one that is served lived
@@ -220,7 +222,7 @@ module _ (O : Ops) (S : Sound O) where
     last_alive (Got p child ended kept) d = inl (λ e. ap (alive O) d.is.now ∙ ((got_alive n d.is.body d.is.keeps d.is.done).0 ∙ (sym (ap (alive O) d.is.was) ∙ e)))
     last_alive (Poked p true) d = inl (λ e. ap (alive O) d.is.now ∙ ((mark_alive s).0 ∙ e))
     last_alive (Poked p false) d = inl (λ e. ap (alive O) d.is.now ∙ e)
-    last_alive (Begin p to line) d = inl (λ e. (let z : true ≡ false = sym (ap (alive O) d.is.was) ∙ e in cc))
+    last_alive (Begin p to reason) d = inl (λ e. (let z : true ≡ false = sym (ap (alive O) d.is.was) ∙ e in cc))
     last_alive (Keep p to line) d = inl (λ e. ap (alive O) d.is.now ∙ ((keep_alive (record { to = to; line = line }) s).0 ∙ e))
     last_alive (Missed p to line) d = inl (λ e. ap (alive O) d.is.now ∙ e)
     last_alive (Again p to place line) d = inl (λ e. ap (alive O) d.is.now ∙ e)
@@ -232,6 +234,7 @@ module _ (O : Ops) (S : Sound O) where
     last_alive (Told p at source hops line poked) d = inl (λ e. ap (alive O) d.is.now ∙ e)
     last_alive (Refused p to why line) d = inl (λ e. ap (alive O) d.is.now ∙ e)
     last_alive (Closed line) d = inl (λ e. ap (alive O) d.is.now ∙ e)
+    last_alive (Gossips heard other) d = inl (λ e. ap (alive O) d.is.now ∙ e)
     last_alive (Strange p) d = absurd d
 
   module _ (n : ℕ) (old new : Local O) (s r : Spot O) (k k2 : O.Kernel) (home : n ≡ 0 → (old.kernel ≡ k) × (new.kernel ≡ k2)) (same : new.kernel ≡ old.kernel → k2 ≡ k) where
@@ -320,7 +323,7 @@ module _ (O : Ops) (S : Sound O) where
         still_lives (Got p child ended kept) d.kernel live (ap (alive O) d.is.now ∙ (g.0 ∙ sym (ap (alive O) d.is.was))) (subst (Right O) (sym d.is.now) g.1) (λ c e. kid c (b ∙ e))
     lives_at (Poked p true) d apart kid live right = still_lives (Poked p true) d.kernel live (ap (alive O) d.is.now ∙ (mark_alive s).0) (subst (Right O) (sym d.is.now) ((mark_alive s).1 right)) (λ c h. none_child c _ h)
     lives_at (Poked p false) d apart kid live right = loose_lives (Poked p false) refl d.kernel live d.is.now right
-    lives_at (Begin p to line) d apart kid live right = ran_lives (Begin p to line) refl d.kernel live _ _ d.is.was d.is.now refl refl
+    lives_at (Begin p to reason) d apart kid live right = ran_lives (Begin p to reason) refl d.kernel live _ _ d.is.was d.is.now refl refl
     lives_at (Keep p to line) d apart kid live right =
         let x = keep_alive (record { to = to; line = line }) s in
         still_lives (Keep p to line) d.kernel live (ap (alive O) d.is.now ∙ x.0) (subst (Right O) (sym d.is.now) (x.1 right)) (λ c h. none_child c _ h)
@@ -334,4 +337,5 @@ module _ (O : Ops) (S : Sound O) where
     lives_at (Told p at source hops line poked) d apart kid live right = loose_lives (Told p at source hops line poked) refl d.kernel live d.is.now right
     lives_at (Refused p to why line) d apart kid live right = loose_lives (Refused p to why line) refl d.kernel live d.is.now right
     lives_at (Closed line) d apart kid live right = loose_lives (Closed line) refl d.kernel live d.is.now right
+    lives_at (Gossips heard other) d apart kid live right = loose_lives (Gossips heard other) refl d.kernel live d.is.now right
     lives_at (Strange p) d apart kid live right = absurd d

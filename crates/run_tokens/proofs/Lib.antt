@@ -7,3 +7,6 @@ pub mod Coupling
 pub mod Alive
 pub mod Sums
 pub mod Stand
+pub mod Places
+pub mod Talking
+pub mod Progress

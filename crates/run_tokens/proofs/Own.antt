@@ -1,14 +1,14 @@
 -- One lemma for each kind of event: what it needs of its process's spot, and where the process is after it.
 use Rattle.std.proofs.Common.{◌≡◌, ◌≢◌, ℕ, ◌+◌, ◌==◌, ◌⊎◌, inl, inr, Bool, true, false, cond, Option, Some, None, List, [], ◌∷◌, refl, sym, ap, ◌∙◌, subst}
 use Rattle.run_tokens.specs.Ops.{Ops}
-use Rattle.run_tokens.specs.Deeds.{Manner, KeptTold}
+use Rattle.run_tokens.specs.Deeds.{Manner, KeptTold, Reason, ForLine, Chosen, line_for}
 use Rattle.run_tokens.specs.Notes.{Done, Call, Pause, Reply, Ask, Allow, Deny, Move, NoMove, Post, Turn, letter, Body, fresh, Kept, State, Running, Waiting, Asking, Context, context, Slot, Local, Way, way}
 use Rattle.run_tokens.specs.Spots.{Spot, Nowhere, Runs, Calls, Holds, Pauses, Answered, Asks, Granted, Denied, Travels, InReply, Ended, site, kept_at, goal, reserved, call_at, slot_by, way_by, mine}
 use Rattle.run_tokens.specs.Does.{Base, hosts, reserves, holds, lands, same, Launches, Stepped, Sends, Heeds, Holding, Serves, Retries, Pausing, Gets, Marks, Ignores, Begins, Keeps, Misses, Grants, Refuses, Departs, Stays, Lands, got_context, got_posts, Awake, Asleep}
 use Rattle.run_tokens.specs.Cluster.{World, Goes}
 use Rattle.run_tokens.specs.Home.{returned, after, done_of, last, first_none, pokes}
 use Rattle.run_tokens.specs.Needs.{got_spot, AwakeAt, FreeAt, AwayFrom, AsleepAt, mark, keep_in, Quiet, Launched, Ran, SentCall, Heeded, HeldCall, ServedCall, ServedPause, GotReply, Marked, Dropped, Begun, KeptMove, MissedIt, AllowedMove, DeniedMove, Departed, StayedHere, LandedHere}
-use Rattle.run_tokens.proofs.Talk.{same_numbers, Loose, pokes_loose, closed_loose, talk_loose, talk_own, heard_own, heard_loose}
+use Rattle.run_tokens.proofs.Talk.{same_numbers, Loose, pokes_loose, closed_loose, talk_loose, talk_own, talk_second, heard_own, heard_loose}
 use Rattle.run_tokens.proofs.Process.{cond_here, cond_off, cond_same, At, Letters, letters_of, took_way, way_tells, context_tells, call_tells, settle, settle_stay, rests}
 use Rattle.std.specs.Prelude.{ℤ}
 use Rattle.call_table.specs.declared.process.End.{End}
@@ -58,6 +58,9 @@ module _ (O : Ops) where
 
     pub in_out : (p : ℕ) (l m : Post O) (ls : List (Post O)) → t.taken ≡ Some l → t.posted ≡ m ∷ ls → mine O p l.note ≡ true → mine O p m.note ≡ true → Loose O p ls → Letters O p (Some (way O l.from l.to l.note)) (Some (way O m.from m.to m.note)) w v
     in_out p l m ls e f g h k = letters_of O p w t v goes (Some l) (m ∷ ls) e f (Some (way O l.from l.to l.note)) (Some (way O m.from m.to m.note)) (λ a b. heard_own O p a b l g) (λ a b. talk_own O p a b m ls h k)
+
+    sends_second : (p : ℕ) (l m : Post O) (ls : List (Post O)) → t.taken ≡ None → t.posted ≡ l ∷ m ∷ ls → mine O p l.note ≡ false → mine O p m.note ≡ true → Loose O p ls → Letters O p None (Some (way O m.from m.to m.note)) w v
+    sends_second p l m ls e f h g k = letters_of O p w t v goes None (l ∷ m ∷ ls) e f None (Some (way O m.from m.to m.note)) (λ a b. refl) (λ a b. talk_second O p a b l m ls h g k)
 
     itself : (p : ℕ) → (p == p) ≡ true
     itself p = same_numbers p p refl
@@ -363,15 +366,20 @@ module _ (O : Ops) where
       stay_own p s _ _ at (loose_in p _ _ d.base.took d.base.posts refl (refl, tt)) d.base,
     )
 
-    pub begin_own : (p to line : ℕ) (s : Spot O) → At O p s w → Begins O n p to line old t new → Turned (λ r. Quiet O (Begun O n to line s r) old new) p v
-    begin_own p to line s at d =
+    begin_letters : (p to : ℕ) (reason : Reason) (d : Begins O n p to reason old t new) → Letters O p None (Some (way O n to (Ask p (O.pages d.body.user)))) w v
+    begin_letters p to (ForLine line) d = loose_out p _ _ [] d.base.took d.base.posts refl (itself p) tt
+    begin_letters p to (Chosen false other) d = sends_second p _ _ [] d.base.took d.base.posts refl (itself p) tt
+    begin_letters p to (Chosen true other) d = loose_out p _ _ [] d.base.took d.base.posts refl (itself p) tt
+
+    pub begin_own : (p to : ℕ) (reason : Reason) (s : Spot O) → At O p s w → Begins O n p to reason old t new → Turned (λ r. Quiet O (Begun O n to (line_for reason) s r) old new) p v
+    begin_own p to reason s at d =
         let is : s ≡ Runs n d.body = context_tells O p s w at n d.body Running d.was in
-        let r = Asks n d.body to (Some line) (O.pages d.body.user) in
+        let r = Asks n d.body to (line_for reason) (O.pages d.body.user) in
         let here = subst (λ (k : Spot O). At O p k w) is at in (
           r,
           record { is = record { body = d.body; away = d.away; was = is; now = refl }; kernel = d.still.kernel },
-          settle O w t v goes p (Runs n d.body) r here None _ (loose_out p _ _ [] d.base.took d.base.posts refl (itself p) tt) refl refl
-              (rehost p (Runs n d.body) r (Some (context O d.body (Asking to (Some line)))) here (own_slot p _ _ _ _ _ old t new d.base) (cond_here n _ _) refl refl)
+          settle O w t v goes p (Runs n d.body) r here None _ (begin_letters p to reason d) refl refl
+              (rehost p (Runs n d.body) r (Some (context O d.body (Asking to (line_for reason)))) here (own_slot p _ _ _ _ _ old t new d.base) (cond_here n _ _) refl refl)
               (λ m ne. same_slot (slot_by O (Runs n d.body) m) (slot_by O r m) (off_both m n _ _ _ ne) refl refl),
         )
 

@@ -1,7 +1,7 @@
 -- What an event does to spots alone: a process that was nowhere stays so, moves go to other nodes, and children belong to their parents' answers.
 use Rattle.std.proofs.Common.{◌≡◌, ◌≢◌, ℕ, ◌+◌, ◌⊎◌, inl, inr, Bool, true, false, cond, Option, Some, None, List, refl, sym, ap, ◌∙◌, subst}
 use Rattle.run_tokens.specs.Ops.{Ops, Sound, counted, typed}
-use Rattle.run_tokens.specs.Deeds.{Manner, Did, Broke, Fell, Paused, Deed, Run, Kill, Bid, Unsent, Other, Steps, Sent, Heed, Held, Served, Got, Poked, Begin, Keep, Missed, Again, Allows, Denies, Depart, Stay, Land, Told, Refused, Closed, Strange, pid_of, Input, Text, Finish, Nothing}
+use Rattle.run_tokens.specs.Deeds.{Manner, Did, Broke, Fell, Paused, Deed, Run, Kill, Bid, Unsent, Other, Steps, Sent, Heed, Held, Served, Got, Poked, Begin, Keep, Missed, Again, Allows, Denies, Depart, Stay, Land, Told, Refused, Closed, Gossips, Strange, pid_of, Input, Text, Finish, Nothing}
 use Rattle.run_tokens.specs.Notes.{Done, Body, Kept, Local}
 use Rattle.run_tokens.specs.Spots.{Spot, Nowhere, Runs, Calls, Holds, Pauses, Answered, Asks, Granted, Denied, Travels, InReply, Ended}
 use Rattle.run_tokens.specs.Home.{First, last, last_by, Acts, give, enter, returned, after}
@@ -73,7 +73,7 @@ module _ (O : Ops) (S : Sound O) where
     born_count (Served p manner number value child signal ends more poked) k = counted child k
     born_count (Got p child ended kept) k = k
     born_count (Poked p used) k = k
-    born_count (Begin p to line) k = k
+    born_count (Begin p to reason) k = k
     born_count (Keep p to line) k = k
     born_count (Missed p to line) k = k
     born_count (Again p to place line) k = k
@@ -85,6 +85,7 @@ module _ (O : Ops) (S : Sound O) where
     born_count (Told p at source hops line poked) k = k
     born_count (Refused p to why line) k = k
     born_count (Closed line) k = k
+    born_count (Gossips heard other) k = k
     born_count (Strange p) k = k
 
     pub counts : (what : Deed) → Needs O what n old new s r → O.count new.kernel ≡ born_count what (O.count old.kernel)
@@ -100,7 +101,7 @@ module _ (O : Ops) (S : Sound O) where
     counts (Served p manner number value child signal ends more poked) d = count_so manner p number value child signal ends more poked d
     counts (Got p child ended kept) d = ap O.count d.kernel
     counts (Poked p used) d = ap O.count d.kernel
-    counts (Begin p to line) d = ap O.count d.kernel
+    counts (Begin p to reason) d = ap O.count d.kernel
     counts (Keep p to line) d = ap O.count d.kernel
     counts (Missed p to line) d = ap O.count d.kernel
     counts (Again p to place line) d = ap O.count d.kernel
@@ -112,6 +113,7 @@ module _ (O : Ops) (S : Sound O) where
     counts (Told p at source hops line poked) d = ap O.count d.kernel
     counts (Refused p to why line) d = ap O.count d.kernel
     counts (Closed line) d = ap O.count d.kernel
+    counts (Gossips heard other) d = ap O.count d.kernel
     counts (Strange p) d = absurd d
 
     -- nothing but its launch takes a process out of nowhere
@@ -150,7 +152,7 @@ module _ (O : Ops) (S : Sound O) where
     nowhere (Got p child ended kept) d e = let z = sym d.is.was ∙ e in absurd cc
     nowhere (Poked p true) d e = inl (d.is.now ∙ ap (mark O) e)
     nowhere (Poked p false) d e = inl (d.is.now ∙ e)
-    nowhere (Begin p to line) d e = let z = sym d.is.was ∙ e in absurd cc
+    nowhere (Begin p to reason) d e = let z = sym d.is.was ∙ e in absurd cc
     nowhere (Keep p to line) d e = inl (d.is.now ∙ ap (keep_in O (record { to = to; line = line })) e)
     nowhere (Missed p to line) d e = inl (d.is.now ∙ e)
     nowhere (Again p to place line) d e = inl (d.is.now ∙ e)
@@ -162,6 +164,7 @@ module _ (O : Ops) (S : Sound O) where
     nowhere (Told p at source hops line poked) d e = inl (d.is.now ∙ e)
     nowhere (Refused p to why line) d e = inl (d.is.now ∙ e)
     nowhere (Closed line) d e = inl (d.is.now ∙ e)
+    nowhere (Gossips heard other) d e = inl (d.is.now ∙ e)
     nowhere (Strange p) d e = absurd d
 
   -- a move goes to another node
@@ -233,7 +236,7 @@ module _ (O : Ops) (S : Sound O) where
     aims (Got p child ended kept) d a = subst (Aims O) (sym d.is.now) (aims_got n d.is.body d.is.keeps d.is.done d.is.paused d.is.held (subst (Aims O) d.is.was a))
     aims (Poked p true) d a = subst (Aims O) (sym d.is.now) (aims_mark s a)
     aims (Poked p false) d a = subst (Aims O) (sym d.is.now) a
-    aims (Begin p to line) d a = subst (Aims O) (sym d.is.now) d.is.away
+    aims (Begin p to reason) d a = subst (Aims O) (sym d.is.now) d.is.away
     aims (Keep p to line) d a = subst (Aims O) (sym d.is.now) (aims_free (record { to = to; line = line }) n s d.is.away d.is.free)
     aims (Missed p to line) d a = subst (Aims O) (sym d.is.now) a
     aims (Again p to place line) d a = subst (Aims O) (sym d.is.now) a
@@ -245,6 +248,7 @@ module _ (O : Ops) (S : Sound O) where
     aims (Told p at source hops line poked) d a = subst (Aims O) (sym d.is.now) a
     aims (Refused p to why line) d a = subst (Aims O) (sym d.is.now) a
     aims (Closed line) d a = subst (Aims O) (sym d.is.now) a
+    aims (Gossips heard other) d a = subst (Aims O) (sym d.is.now) a
     aims (Strange p) d a = absurd d
 
   -- a user state keeps its pid
@@ -324,7 +328,7 @@ module _ (O : Ops) (S : Sound O) where
     named (Got p child ended kept) d a = subst (Named O p) (sym d.is.now) (named_got p n d.is.body d.is.keeps d.is.done (subst (Named O p) d.is.was a))
     named (Poked p true) d a = subst (Named O p) (sym d.is.now) (named_mark p s a)
     named (Poked p false) d a = subst (Named O p) (sym d.is.now) a
-    named (Begin p to line) d a = subst (Named O p) (sym d.is.now) (subst (Named O p) d.is.was a)
+    named (Begin p to reason) d a = subst (Named O p) (sym d.is.now) (subst (Named O p) d.is.was a)
     named (Keep p to line) d a = subst (Named O p) (sym d.is.now) (named_keep (record { to = to; line = line }) p s a)
     named (Missed p to line) d a = subst (Named O p) (sym d.is.now) a
     named (Again p to place line) d a = subst (Named O p) (sym d.is.now) a
@@ -336,4 +340,5 @@ module _ (O : Ops) (S : Sound O) where
     named (Told p at source hops line poked) d a = subst (Named O p) (sym d.is.now) a
     named (Refused p to why line) d a = subst (Named O p) (sym d.is.now) a
     named (Closed line) d a = subst (Named O 0) (sym d.is.now) a
+    named (Gossips heard other) d a = subst (Named O 0) (sym d.is.now) a
     named (Strange p) d a = absurd d

@@ -1,11 +1,13 @@
 -- Over every list of turns that the cluster can make, each process is at its spot, and each event finds the spot that it needs.
 use Rattle.std.proofs.Common.{◌≡◌, ◌≤◌, ◌≢◌, ℕ, ◌<◌, ◌==◌, ◌⊎◌, inl, inr, Bool, true, false, cond, Option, Some, None, List, [], ◌∷◌, refl, sym, ap, ◌∙◌, subst, arith}
 use Rattle.run_tokens.specs.Ops.{Ops, IsMove, is_child}
-use Rattle.run_tokens.specs.Deeds.{Manner, Did, Broke, Fell, Paused, KeptTold, Deed, Run, Kill, Bid, Unsent, Other, Steps, Sent, Heed, Held, Served, Got, Poked, Begin, Keep, Missed, Again, Allows, Denies, Depart, Stay, Land, Told, Refused, Closed, Strange, pid_of, child_of}
+use Rattle.run_tokens.specs.Deeds.{Manner, Did, Broke, Fell, Paused, KeptTold, ForLine, Chosen, Deed, Run, Kill, Bid, Unsent, Other, Steps, Sent, Heed, Held, Served, Got, Poked, Begin, Keep, Missed, Again, Allows, Denies, Depart, Stay, Land, Told, Refused, Closed, Gossips, Strange, pid_of, child_of}
 use Rattle.run_tokens.specs.Notes.{Done, Note, Call, Pause, Reply, Poke, Half, Go, NotHere, Ask, Allow, Deny, Move, Landed, NoMove, Post, Turn, letter, Body, fresh, Kept, State, Running, Waiting, Context, context, Slot, Local, way}
 use Rattle.run_tokens.specs.Spots.{Spot, Nowhere, Runs, Calls, Pauses, Answered, Asks, Granted, Denied, Travels, InReply, slot_by, way_by, mine}
 use Rattle.run_tokens.specs.Does.{Base, hosts, same, Does, ServedBy, PokedBy, Skips, Misfit, WrongChild, Reserved, FarNode, pid_of_note, got_posts}
 use Rattle.run_tokens.specs.Cluster.{World, Goes}
+use Rattle.run_tokens.specs.Gossip.{NearPlaces}
+use Rattle.run_tokens.proofs.Places.{not_far}
 use Rattle.run_tokens.specs.Home.{after, fits_done, Given, NeverGiven}
 use Rattle.run_tokens.specs.Needs.{Needs, ServedSo, PokedSo, Quiet, Aims, Right, Named, alive, brings}
 use Rattle.run_tokens.proofs.Talk.{same_numbers, Of, AllOf, TakenOf, Loose, all_other, taken_other, talk_loose, pokes_of, pokes_loose, closed_of}
@@ -15,13 +17,13 @@ use Rattle.std.specs.Prelude.{ℤ}
 use Rattle.call_table.specs.declared.process.End.{End}
 
 module _ (O : Ops) where
-  -- letters for home go to home, those of a line are of its move, a landing is told with its number, and their pids were given, of k; no half is sent yet
+  -- letters for home go to home, those of a line are of its move, a landing is told with its number, and their pids were given, of k; the places of a half name nodes of the cluster
   abbrev pub Bound : ℕ → Note O → ℕ → Type 0
   Bound k (Call p r) b = Unit {0}
   Bound k (Pause p r) b = Unit {0}
   Bound k (Reply p d) b = Unit {0}
   Bound k (Poke p) b = Unit {0}
-  Bound k (Half places) b = ⊥
+  Bound k (Half places) b = NearPlaces O.nodes places
   Bound k (Go p to hops line) b = IsMove O line p to × (to < O.nodes) × Given O k p
   Bound k (NotHere p to hops line) b = (b ≡ 0) × IsMove O line p to × (to < O.nodes) × Given O k p
   Bound k (Ask p need) b = Unit {0}
@@ -163,7 +165,7 @@ module _ (O : Ops) where
         near (Pause q r) b far = far
         near (Reply q r) b far = far
         near (Poke q) b far = far
-        near (Half places) b far = b
+        near (Half places) b far = not_far O.nodes places b far
         near (Go q to hops line) b far = omega (arith, b.1, far)
         near (NotHere q to hops line) b far = omega (arith, b.2, far)
         near (Ask q need) b far = far
@@ -216,7 +218,7 @@ module _ (O : Ops) where
     own_at (Served p manner number value child signal ends more poked) s born knows bound at d = served_own manner p number value child signal ends more poked s at d
     own_at (Got p child ended kept) s born knows bound at d = get_own O w t v goes p child ended kept s at d
     own_at (Poked p used) s born knows bound at d = poked_own used p s at d
-    own_at (Begin p to line) s born knows bound at d = begin_own O w t v goes p to line s at d
+    own_at (Begin p to reason) s born knows bound at d = begin_own O w t v goes p to reason s at d
     own_at (Keep p to line) s born knows bound at d = keep_own O w t v goes p to line s at d
     own_at (Missed p to line) s born knows bound at d = miss_own O w t v goes p to line s at d
     own_at (Again p to place line) s born knows bound at d = (s, record { is = record { why = (d.home, d.live); now = refl }; kernel = d.still.kernel }, stays p s _ _ at (loose_in O w t v goes p _ _ d.base.took d.base.posts refl (refl, tt)) d.base)
@@ -233,6 +235,8 @@ module _ (O : Ops) where
     own_at (Refused p to why line) s born knows bound at (inl d) = (s, record { is = record { why = inl d.was; now = refl }; kernel = d.still.kernel }, stays p s _ _ at (loose_in O w t v goes p _ _ d.base.took d.base.posts refl (refl, tt)) d.base)
     own_at (Refused p to why line) s born knows bound at (inr d) = (s, record { is = record { why = inr (d.home, (d.hops, d.was)); now = refl }; kernel = d.still.kernel }, stays p s _ _ at (loose_in O w t v goes p _ _ d.base.took d.base.posts refl tt) d.base)
     own_at (Closed line) s born knows bound at d = (s, record { is = record { why = d.home; now = refl }; kernel = d.still.kernel }, stays 0 s _ _ at (loose_in O w t v goes 0 _ _ d.base.took d.base.posts refl tt) d.base)
+    own_at (Gossips false other) s born knows bound at d = (s, record { is = record { why = tt; now = refl }; kernel = d.still.kernel }, stays 0 s _ _ at (silent O w t v goes 0 _ d.base.took d.base.posts (refl, tt)) d.base)
+    own_at (Gossips true other) s born knows bound at d = (s, record { is = record { why = tt; now = refl }; kernel = d.still.kernel }, stays 0 s _ _ at (loose_in O w t v goes 0 _ _ d.base.took d.base.posts refl tt) d.base)
     own_at (Strange p) s born knows bound at d = absurd (skip_own p s knows bound at d)
 
     -- what an event leaves alone of a process that it is not about
@@ -276,7 +280,9 @@ module _ (O : Ops) where
     other_at (Got p child ended kept) d q s ne h at = frame p child _ _ _ _ d.base refl (got_all p d.body d.keeps d.done) q s ne h at
     other_at (Poked p true) d q s ne h at = frame p None _ _ _ _ d.base tt tt q s ne refl at
     other_at (Poked p false) d q s ne h at = frame p None _ _ _ _ d.base tt tt q s ne refl at
-    other_at (Begin p to line) d q s ne h at = frame p None _ _ _ _ d.base tt (refl, tt) q s ne refl at
+    other_at (Begin p to (ForLine line)) d q s ne h at = frame p None _ _ _ _ d.base tt (refl, tt) q s ne refl at
+    other_at (Begin p to (Chosen false other)) d q s ne h at = frame p None _ _ _ _ d.base tt (tt, (refl, tt)) q s ne refl at
+    other_at (Begin p to (Chosen true other)) d q s ne h at = frame p None _ _ _ _ d.base tt (refl, tt) q s ne refl at
     other_at (Keep p to line) d q s ne h at = frame p None _ _ _ _ d.base tt tt q s ne refl at
     other_at (Missed p to line) d q s ne h at = frame p None _ _ _ _ d.base tt (tt, tt) q s ne refl at
     other_at (Again p to place line) d q s ne h at = frame p None _ _ _ _ d.base tt (tt, tt) q s ne refl at
@@ -289,6 +295,8 @@ module _ (O : Ops) where
     other_at (Refused p to why line) (inl d) q s ne h at = frame p None _ _ _ _ d.base tt (tt, tt) q s ne refl at
     other_at (Refused p to why line) (inr d) q s ne h at = frame p None _ _ _ _ d.base tt tt q s ne refl at
     other_at (Closed line) d q s ne h at = frame 0 None _ _ _ _ d.base tt tt q s ne refl at
+    other_at (Gossips false other) d q s ne h at = frame 0 None _ _ _ _ d.base tt (tt, tt) q s ne refl at
+    other_at (Gossips true other) d q s ne h at = frame 0 None _ _ _ _ d.base tt tt q s ne refl at
     other_at (Strange p) d q s ne h at = frame p None _ _ _ _ d.base (skip_of d.note d.pid) tt q s ne refl at
       where
         skip_of : (m : Note O) → pid_of_note O m ≡ p → Of O p m

@@ -1,11 +1,14 @@
 -- The process invariant, and the induction over every run of the cluster.
 use Rattle.std.proofs.Common.{◌≡◌, ◌≢◌, ℕ, suc, ◌+◌, ◌<◌, ◌≤◌, ◌==◌, ◌&&◌, ◌⊎◌, inl, inr, Bool, true, false, cond, Option, Some, None, List, [], ◌∷◌, ◌++◌, refl, sym, ap, ◌∙◌, subst, arith}
 use Rattle.run_tokens.specs.Ops.{Ops, Sound, counted, sum_below, one_if, lives_in}
-use Rattle.run_tokens.specs.Deeds.{Manner, Did, Broke, Fell, Paused, Deed, Run, Kill, Bid, Unsent, Other, Steps, Sent, Heed, Held, Served, Got, Poked, Begin, Keep, Missed, Again, Allows, Denies, Depart, Stay, Land, Told, Refused, Closed, Strange, pid_of, child_of}
+use Rattle.run_tokens.specs.Deeds.{Manner, Did, Broke, Fell, Paused, ForLine, Chosen, Deed, Run, Kill, Bid, Unsent, Other, Steps, Sent, Heed, Held, Served, Got, Poked, Begin, Keep, Missed, Again, Allows, Denies, Depart, Stay, Land, Told, Refused, Closed, Gossips, Strange, pid_of, child_of}
 use Rattle.run_tokens.specs.Notes.{Done, Note, Call, Pause, Reply, Poke, Half, Go, NotHere, Ask, Allow, Deny, Move, Landed, NoMove, Post, Turn, letter, Body, fresh, Kept, Slot, Local, Believed, Waiting}
 use Rattle.run_tokens.specs.Spots.{Spot, Nowhere, Runs, Calls, Holds, Pauses, Answered, Asks, Granted, Denied, Travels, InReply, Ended, goal, reserved, slot_by}
 use Rattle.run_tokens.specs.Cluster.{World, for_link, at_front, Goes, Starts, Reached}
-use Rattle.run_tokens.specs.Does.{Does, ServedBy, Lands, Reserved, is_reserved, got_posts}
+use Rattle.run_tokens.specs.Gossip.{Entry, Gossip, NearPlaces, renewed, told_places, Choice, Talk, Silent, Stepping, Talking, talk_of}
+use Rattle.run_tokens.proofs.Places.{near_renewed, near_first, near_woven}
+use Rattle.run_tokens.proofs.Talking.{GossipBy, gossip_by, own_below}
+use Rattle.run_tokens.specs.Does.{Does, ServedBy, Talks, Lands, Reserved, is_reserved, got_posts}
 use Rattle.run_tokens.specs.Home.{after, pokes, line_closed, Given, NeverGiven}
 use Rattle.run_tokens.specs.Needs.{Names, Needs, Aims, Coupled, brings, user_at, born_spot, next_spot, alive, Right, Named}
 use Rattle.run_tokens.proofs.Talk.{same_numbers, numbers_same, numbers_other, talk}
@@ -99,6 +102,9 @@ module _ (O : Ops) (S : Sound O) where
     first_below : n ≡ 0 → 0 < O.nodes
     first_below e = omega (arith, e, below)
 
+    told_near : (other : ℕ) (chosen : Option Choice) → NearPlaces O.nodes old.gossip.vector → (d : Talks O false n other chosen old t new) → NearPlaces O.nodes d.places
+    told_near other chosen near d = subst (NearPlaces O.nodes) (sym d.sends.2) (near_first O.nodes 4 (renewed d.own old.gossip.vector) (near_renewed O.nodes d.own old.gossip.vector (own_below O n old t new false other chosen below d) near))
+
     got_bound : (p : ℕ) (b : Body O) (k : Option Kept) (d : Done O) → EachBound births (got_posts O n t.event.stamp p b k d)
     got_bound p b None d = tt
     got_bound p b (Some k) d = go d.ended
@@ -119,34 +125,38 @@ module _ (O : Ops) (S : Sound O) where
     served_bound Fell p number value child signal ends more poked d = by_base _ d.base.posts ((tt, below), pokes_bound births t.event.stamp old.believed poked (first_below d.home))
     served_bound Paused p number value child signal ends more poked d = by_base _ d.base.posts ((tt, below), pokes_bound births t.event.stamp old.believed poked (first_below d.home))
 
-    posts_bound : (what : Deed) → ((q : ℕ) → n ≡ 0 → O.live old.kernel q ≡ true → Given O births q) → ((p source : ℕ) → Lands O n p source old t new → Given O births p) → BoundOf O births t.taken → Does O what n old t new → EachBound births t.posted
-    posts_bound (Run line i p) lives landed bound d = by_base _ d.base.posts tt
-    posts_bound (Kill line p g poked) lives landed bound d = by_base _ d.base.posts (pokes_bound births t.event.stamp old.believed poked (first_below d.home))
-    posts_bound (Bid line p to) lives landed bound d = by_base _ d.base.posts (((S.lines _ _ d.order.next, S.targets line p to (S.lines _ _ d.order.next), lives p d.home d.live), first_below d.home), tt)
-    posts_bound (Unsent line p never) lives landed bound d = by_base _ d.base.posts tt
-    posts_bound (Other line input) lives landed bound d = by_base _ d.base.posts tt
-    posts_bound (Steps p k) lives landed bound d = by_base _ d.base.posts tt
-    posts_bound (Sent p k) lives landed bound d = by_base _ d.base.posts ((tt, below), tt)
-    posts_bound (Heed p) lives landed bound d = by_base _ d.base.posts ((tt, below), tt)
-    posts_bound (Held p k) lives landed bound d = by_base _ d.base.posts tt
-    posts_bound (Served p manner number value child signal ends more poked) lives landed bound d = served_bound manner p number value child signal ends more poked d
-    posts_bound (Got p child ended kept) lives landed bound d = by_base _ d.base.posts (got_bound p d.body d.keeps d.done)
-    posts_bound (Poked p true) lives landed bound d = by_base _ d.base.posts tt
-    posts_bound (Poked p false) lives landed bound d = by_base _ d.base.posts tt
-    posts_bound (Begin p to line) lives landed bound d = by_base _ d.base.posts ((tt, below), tt)
-    posts_bound (Keep p to line) lives landed bound d = by_base _ d.base.posts tt
-    posts_bound (Missed p to line) lives landed bound d = by_base _ d.base.posts ((let x = (subst (BoundOf O births) d.base.took bound).0 in ((refl, x.0, x.1, x.2), below)), tt)
-    posts_bound (Again p to place line) lives landed bound d = by_base _ d.base.posts ((let x = (subst (BoundOf O births) d.base.took bound).0 in ((x.1, x.2, x.3), below)), tt)
-    posts_bound (Allows p from need) lives landed bound d = by_base _ d.base.posts ((tt, below), tt)
-    posts_bound (Denies p from need free) lives landed bound d = by_base _ d.base.posts ((tt, below), tt)
-    posts_bound (Depart p to) lives landed bound d = by_base _ d.base.posts ((tt, below), tt)
-    posts_bound (Stay p to need free) lives landed bound d = by_base _ d.base.posts (closed_bound births n t.event.stamp d.line below)
-    posts_bound (Land p source) lives landed bound d = by_base _ d.base.posts (((refl, omega arith, (subst (BoundOf O births) d.base.took bound).1, landed p source d), below), tt)
-    posts_bound (Told p at source hops line poked) lives landed bound d = by_base _ d.base.posts (told_bound p _ poked)
-    posts_bound (Refused p to why line) lives landed bound (inl d) = by_base _ d.base.posts ((refl, below), tt)
-    posts_bound (Refused p to why line) lives landed bound (inr d) = by_base _ d.base.posts tt
-    posts_bound (Closed line) lives landed bound d = by_base _ d.base.posts tt
-    posts_bound (Strange p) lives landed bound d = by_base _ d.base.posts tt
+    posts_bound : (what : Deed) → NearPlaces O.nodes old.gossip.vector → ((q : ℕ) → n ≡ 0 → O.live old.kernel q ≡ true → Given O births q) → ((p source : ℕ) → Lands O n p source old t new → Given O births p) → BoundOf O births t.taken → Does O what n old t new → EachBound births t.posted
+    posts_bound (Run line i p) near lives landed bound d = by_base _ d.base.posts tt
+    posts_bound (Kill line p g poked) near lives landed bound d = by_base _ d.base.posts (pokes_bound births t.event.stamp old.believed poked (first_below d.home))
+    posts_bound (Bid line p to) near lives landed bound d = by_base _ d.base.posts (((S.lines _ _ d.order.next, S.targets line p to (S.lines _ _ d.order.next), lives p d.home d.live), first_below d.home), tt)
+    posts_bound (Unsent line p never) near lives landed bound d = by_base _ d.base.posts tt
+    posts_bound (Other line input) near lives landed bound d = by_base _ d.base.posts tt
+    posts_bound (Steps p k) near lives landed bound d = by_base _ d.base.posts tt
+    posts_bound (Sent p k) near lives landed bound d = by_base _ d.base.posts ((tt, below), tt)
+    posts_bound (Heed p) near lives landed bound d = by_base _ d.base.posts ((tt, below), tt)
+    posts_bound (Held p k) near lives landed bound d = by_base _ d.base.posts tt
+    posts_bound (Served p manner number value child signal ends more poked) near lives landed bound d = served_bound manner p number value child signal ends more poked d
+    posts_bound (Got p child ended kept) near lives landed bound d = by_base _ d.base.posts (got_bound p d.body d.keeps d.done)
+    posts_bound (Poked p true) near lives landed bound d = by_base _ d.base.posts tt
+    posts_bound (Poked p false) near lives landed bound d = by_base _ d.base.posts tt
+    posts_bound (Begin p to (ForLine line)) near lives landed bound d = by_base _ d.base.posts ((tt, below), tt)
+    posts_bound (Begin p to (Chosen false other)) near lives landed bound d = by_base _ d.base.posts ((told_near other _ near d.why, below), ((tt, below), tt))
+    posts_bound (Begin p to (Chosen true other)) near lives landed bound d = by_base _ d.base.posts ((tt, below), tt)
+    posts_bound (Keep p to line) near lives landed bound d = by_base _ d.base.posts tt
+    posts_bound (Missed p to line) near lives landed bound d = by_base _ d.base.posts ((let x = (subst (BoundOf O births) d.base.took bound).0 in ((refl, x.0, x.1, x.2), below)), tt)
+    posts_bound (Again p to place line) near lives landed bound d = by_base _ d.base.posts ((let x = (subst (BoundOf O births) d.base.took bound).0 in ((x.1, x.2, x.3), below)), tt)
+    posts_bound (Allows p from need) near lives landed bound d = by_base _ d.base.posts ((tt, below), tt)
+    posts_bound (Denies p from need free) near lives landed bound d = by_base _ d.base.posts ((tt, below), tt)
+    posts_bound (Depart p to) near lives landed bound d = by_base _ d.base.posts ((tt, below), tt)
+    posts_bound (Stay p to need free) near lives landed bound d = by_base _ d.base.posts (closed_bound births n t.event.stamp d.line below)
+    posts_bound (Land p source) near lives landed bound d = by_base _ d.base.posts (((refl, omega arith, (subst (BoundOf O births) d.base.took bound).1, landed p source d), below), tt)
+    posts_bound (Told p at source hops line poked) near lives landed bound d = by_base _ d.base.posts (told_bound p _ poked)
+    posts_bound (Refused p to why line) near lives landed bound (inl d) = by_base _ d.base.posts ((refl, below), tt)
+    posts_bound (Refused p to why line) near lives landed bound (inr d) = by_base _ d.base.posts tt
+    posts_bound (Closed line) near lives landed bound d = by_base _ d.base.posts tt
+    posts_bound (Gossips false other) near lives landed bound d = by_base _ d.base.posts ((told_near other _ near d.talks, below), tt)
+    posts_bound (Gossips true other) near lives landed bound d = by_base _ d.base.posts tt
+    posts_bound (Strange p) near lives landed bound d = by_base _ d.base.posts tt
 
     -- an event that takes a line's letter is of that line's move, and a landing is told with its number
     names : (what : Deed) → BoundOf O births t.taken → Does O what n old t new → Names O what
@@ -162,7 +172,8 @@ module _ (O : Ops) (S : Sound O) where
     names (Served p manner number value child signal ends more poked) bound d = tt
     names (Got p child ended kept) bound d = tt
     names (Poked p used) bound d = tt
-    names (Begin p to line) bound d = (subst (BoundOf O births) d.base.took bound).0.0
+    names (Begin p to (ForLine line)) bound d = (subst (BoundOf O births) d.base.took bound).0.0
+    names (Begin p to (Chosen heard other)) bound d = tt
     names (Keep p to line) bound d = (subst (BoundOf O births) d.base.took bound).0.0
     names (Missed p to line) bound d = (subst (BoundOf O births) d.base.took bound).0.0
     names (Again p to place line) bound d = (subst (BoundOf O births) d.base.took bound).0.1
@@ -173,6 +184,7 @@ module _ (O : Ops) (S : Sound O) where
     names (Land p source) bound d = tt
     names (Told p at source hops line poked) bound d = (subst (BoundOf O births) d.base.took bound).0.1
     names (Closed line) bound d = tt
+    names (Gossips heard other) bound d = tt
     names (Strange p) bound d = tt
     names (Refused p to why line) bound (inl d) = (subst (BoundOf O births) d.base.took bound).0.0
     names (Refused p to why line) bound (inr d) = (subst (BoundOf O births) d.base.took bound).0.1
@@ -188,6 +200,7 @@ module _ (O : Ops) (S : Sound O) where
     pub lives : (p : ℕ) → O.live (w.nodes 0).kernel p ≡ alive O (sp p)
     pub right : (p : ℕ) → Right O (sp p)
     pub named : (p : ℕ) → Named O p (sp p)
+    pub near : (n : ℕ) → NearPlaces O.nodes (w.nodes n).gossip.vector
     pub few : lives_in O (w.nodes 0).kernel ≤ 64
 
   -- one step of the spots
@@ -377,7 +390,7 @@ module _ (O : Ops) (S : Sound O) where
           at = got_child O w t v goes p b ended kept p (O.forked (user_at O (sp p)) b) d pair.1 (ap (λ (k : O.User). O.forked k b) user) (subst (λ (k : Spot O). At O b k w) pair.0 (st.at b));
         }))
     child_case (Poked p used) r need d c e = absurd cc
-    child_case (Begin p to line) r need d c e = absurd cc
+    child_case (Begin p to reason) r need d c e = absurd cc
     child_case (Keep p to line) r need d c e = absurd cc
     child_case (Missed p to line) r need d c e = absurd cc
     child_case (Again p to place line) r need d c e = absurd cc
@@ -389,6 +402,7 @@ module _ (O : Ops) (S : Sound O) where
     child_case (Told p at source hops line poked) r need d c e = absurd cc
     child_case (Refused p to why line) r need d c e = absurd cc
     child_case (Closed line) r need d c e = absurd cc
+    child_case (Gossips heard other) r need d c e = absurd cc
     child_case (Strange p) r need d c e = absurd cc
 
     pub child_apart : (r : Spot O) → Needs O what m (w.nodes m) (v.nodes m) (sp (pid_of what)) r → (c : ℕ) → child_of what ≡ Some c → c ≢ pid_of what
@@ -479,7 +493,7 @@ module _ (O : Ops) (S : Sound O) where
     counted_more (Served p manner number value (Some c) signal ended more poked) k = omega arith
     counted_more (Got p child ended kept) k = omega arith
     counted_more (Poked p used) k = omega arith
-    counted_more (Begin p to line) k = omega arith
+    counted_more (Begin p to reason) k = omega arith
     counted_more (Keep p to line) k = omega arith
     counted_more (Missed p to line) k = omega arith
     counted_more (Again p to place line) k = omega arith
@@ -491,6 +505,7 @@ module _ (O : Ops) (S : Sound O) where
     counted_more (Told p at2 source hops line poked) k = omega arith
     counted_more (Refused p to why line) k = omega arith
     counted_more (Closed line) k = omega arith
+    counted_more (Gossips heard other) k = omega arith
     counted_more (Strange p) k = omega arith
 
     pub grows : O.count (w.nodes 0).kernel ≤ O.count (v.nodes 0).kernel
@@ -603,7 +618,26 @@ module _ (O : Ops) (S : Sound O) where
         all_later so_many (O.count (v.nodes 0).kernel) grows (v.links a b)
         (subst (EachBound so_many) (sym (goes.posts a b))
         (bound_append so_many (goes.rest a b) (for_link O a b t.posted) (bound_right so_many (at_front O t.taken a b) (goes.rest a b) (subst (EachBound so_many) (goes.takes a b) (st.bound a b)))
-        (bound_link so_many a b t.posted (posts_bound w t v goes what home_live landed taken_bound goes.makes.does))))
+        (bound_link so_many a b t.posted (posts_bound w t v goes what (st.near m) home_live landed taken_bound goes.makes.does))))
+
+    heard_bound : (other : ℕ) (places : List (Option Entry)) (stamp : ℕ) → t.taken ≡ Some (letter O other m stamp (Half places)) → NearPlaces O.nodes places
+    heard_bound other places stamp e = (subst (BoundOf O so_many) e taken_bound).0
+
+    -- the nodes that a vector names are of the cluster
+    near_own : (k : Talk) → GossipBy O k m (w.nodes m) t (v.nodes m) → NearPlaces O.nodes (w.nodes m).gossip.vector → NearPlaces O.nodes (v.nodes m).gossip.vector
+    near_own Silent g x = subst (λ (k : Gossip). NearPlaces O.nodes k.vector) (sym g) x
+    near_own Stepping g x = subst (λ (k : Gossip). NearPlaces O.nodes k.vector) (sym g.0) x
+    near_own (Talking false other chosen) g x = subst (λ (k : Gossip). NearPlaces O.nodes k.vector) (sym g.talks.gossip) (near_renewed O.nodes g.talks.own (w.nodes m).gossip.vector (own_below O m (w.nodes m) t (v.nodes m) false other chosen goes.makes.below g.talks) x)
+    near_own (Talking true other chosen) g x =
+        let told : NearPlaces O.nodes (told_places g.talks.own (w.nodes m).gossip) = near_first O.nodes 4 (renewed g.talks.own (w.nodes m).gossip.vector) (near_renewed O.nodes g.talks.own (w.nodes m).gossip.vector (own_below O m (w.nodes m) t (v.nodes m) true other chosen goes.makes.below g.talks) x) in
+        subst (λ (k : Gossip). NearPlaces O.nodes k.vector) (sym g.talks.gossip) (near_woven O.nodes (told_places g.talks.own (w.nodes m).gossip) g.talks.places told (heard_bound other g.talks.places g.talks.stamp g.took))
+
+    near_next : (n : ℕ) → NearPlaces O.nodes (v.nodes n).gossip.vector
+    near_next n = go (n == m) refl
+      where
+        go : (b : Bool) → (n == m) ≡ b → NearPlaces O.nodes (v.nodes n).gossip.vector
+        go true e = subst (λ (k : ℕ). NearPlaces O.nodes (v.nodes k).gossip.vector) (sym (numbers_same n m e)) (near_own (talk_of what) (gossip_by O m (w.nodes m) t (v.nodes m) what goes.makes.does) (st.near m))
+        go false e = subst (λ (l : Local O). NearPlaces O.nodes l.gossip.vector) (sym (goes.elsewhere n (numbers_other n m e))) (st.near n)
 
     pub stands_next : Stands next v
     stands_next = record {
@@ -616,6 +650,7 @@ module _ (O : Ops) (S : Sound O) where
       lives = λ q. (lives_next r need next (λ x. refl) q).0;
       right = λ q. (lives_next r need next (λ x. refl) q).1;
       named = λ q. named_next q (part O what m sp r q);
+      near = near_next;
       few = few_next;
     }
 
@@ -642,6 +677,7 @@ module _ (O : Ops) (S : Sound O) where
       lives = λ p. ap (λ (k : O.Kernel). O.live k p) ((r.nodes 0).home refl).kernel ∙ S.live_empty p;
       right = λ p. tt;
       named = λ p. tt;
+      near = λ n. subst (λ (g : Gossip). NearPlaces O.nodes g.vector) (sym (r.nodes n).gossip) tt;
       few = none_yet;
     };
   }

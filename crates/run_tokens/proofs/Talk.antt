@@ -118,6 +118,14 @@ module _ (O : Ops) where
       go true e = rw h (ap (λ (w : List (Note O)). l.note ∷ w) e)
       go false e = e
 
+  -- after one that this process does not hear
+  pub talk_second : (p a b : ℕ) (l m : Post O) (ls : List (Post O)) → mine O p l.note ≡ false → mine O p m.note ≡ true → Loose p ls → talk p (for_link O a b (l ∷ m ∷ ls)) ≡ on_link (Some (way O m.from m.to m.note)) a b
+  talk_second p a b l m ls h g k = go ((a == l.from) && (b == l.to)) (talk_own p a b m ls g k)
+    where
+      go : (x : Bool) → talk p (for_link O a b (m ∷ ls)) ≡ on_link (Some (way O m.from m.to m.note)) a b → talk p (cond x (l ∷ for_link O a b (m ∷ ls)) (for_link O a b (m ∷ ls))) ≡ on_link (Some (way O m.from m.to m.note)) a b
+      go true e = rw h e
+      go false e = e
+
   pub heard_own : (p a b : ℕ) (l : Post O) → mine O p l.note ≡ true → talk p (at_front O (Some l) a b) ≡ on_link (Some (way O l.from l.to l.note)) a b
   heard_own p a b l h = go ((a == l.from) && (b == l.to))
     where

@@ -1,12 +1,12 @@
 -- What one turn of a node may do.
-use Rattle.std.specs.Prelude.{◌≡◌, ◌≢◌, ℕ, nat_lt, max, ◌-◌, slice_get, ℤ, ◌+◌, ◌<◌, ◌≤◌, ◌==◌, ◌⊎◌, Bool, true, false, cond, Option, Some, None, List, ◌∷◌, []}
+use Rattle.std.specs.Prelude.{◌≡◌, ◌≢◌, ℕ, nat_lt, max, ◌-◌, ◌%◌, ◌++◌, slice_get, ℤ, ◌+◌, ◌<◌, ◌≤◌, ◌==◌, ◌⊎◌, Bool, true, false, cond, Option, Some, None, List, ◌∷◌, []}
 use Rattle.call_table.specs.declared.process.End.{End}
 use Rattle.run_tokens.specs.Ops.{Ops, is_child, typed, has_text, sum_below, one_if}
 use Rattle.node_event.specs.declared.script.Order.{Order}
 use Rattle.node_event.specs.declared.script.Order.TheVariants as order
-use Rattle.run_tokens.specs.Gossip.{FarPlaces, one_step}
-use Rattle.run_tokens.specs.Deeds.{Input, Text, Finish, Nothing, Manner, Did, Broke, Fell, Paused, Why, Gone, Moving, There, KeptTold, Deed, Run, Kill, Bid, Unsent, Other, Steps, Sent, Heed, Held, Served, Got, Poked, Begin, Keep, Missed, Again, Allows, Denies, Depart, Stay, Land, Told, Refused, Closed, Strange}
-use Rattle.run_tokens.specs.Notes.{served_one, Kept, State, Running, Waiting, Asking, Believed, is_some, Done, Note, Call, Pause, Reply, Poke, Half, Go, NotHere, Ask, Allow, Deny, Move, Landed, NoMove, Post, letter, Turn, Body, fresh, Context, context, Called, Slot, Local}
+use Rattle.run_tokens.specs.Gossip.{Entry, Gossip, FarPlaces, one_step, told_places, gossip_after, known_below, other_at, listed_below, Movable, Sight, Choice}
+use Rattle.run_tokens.specs.Deeds.{Input, Text, Finish, Nothing, Manner, Did, Broke, Fell, Paused, Why, Gone, Moving, There, KeptTold, Reason, ForLine, Chosen, line_for, Deed, Run, Kill, Bid, Unsent, Other, Steps, Sent, Heed, Held, Served, Got, Poked, Begin, Keep, Missed, Again, Allows, Denies, Depart, Stay, Land, Told, Refused, Closed, Gossips, Strange}
+use Rattle.run_tokens.specs.Notes.{SameProgress, served_one, Kept, State, Running, Waiting, Asking, Believed, is_some, Done, Note, Call, Pause, Reply, Poke, Half, Go, NotHere, Ask, Allow, Deny, Move, Landed, NoMove, Post, letter, Turn, Body, fresh, Context, context, Called, Slot, Local}
 use Rattle.run_tokens.specs.Home.{both, other_than, live_of, HasEnded, NeverGiven, UnsentFor, unheld, after, returned, First, last, Acts, done_of, to_poke, pokes, line_closed, Answers, born_at, first_none, fits_done}
 
 module _ (O : Ops) where
@@ -39,6 +39,12 @@ module _ (O : Ops) where
     pub progress : new.progress ≡ old.progress
     pub gossip : new.gossip ≡ old.gossip
 
+  -- home's own part stays, whatever becomes of gossip
+  pub record Settled (old new : Local O) : Type 0 where
+    pub kernel : new.kernel ≡ old.kernel
+    pub believed : (q : ℕ) → new.believed q ≡ old.believed q
+    pub progress : new.progress ≡ old.progress
+
   -- home's own part stays, and a quantum of steps is counted
   pub record Counts (old new : Local O) : Type 0 where
     pub kernel : new.kernel ≡ old.kernel
@@ -59,8 +65,8 @@ module _ (O : Ops) where
   pub record Ordered (line : ℕ) (what : Order) (launched : List ℕ) (old new : Local O) : Type 0 where
     pub next : slice_get O.script old.progress.done ≡ Some (record { line = line; order = what })
     pub enabled : EnabledHere what old
-    pub rises : old.progress.line < line
-    pub is : new.progress ≡ record { line = line; done = old.progress.done + 1; launched = launched; served = old.progress.served }
+    pub rises : old.progress.line ≤ line
+    pub is : SameProgress new.progress (record { line = line + 1; done = old.progress.done + 1; launched = launched; served = old.progress.served })
 
   -- the line that such an input is of
   abbrev pub Feeds : Input → Order → Type 0
@@ -105,6 +111,79 @@ module _ (O : Ops) where
     pub bound : ℕ
     pub beyond : (p : ℕ) → bound ≤ p → (l.slots p).reserve ≡ None
     pub sum : total ≡ sum_below bound (λ p. one_if (is_reserved (l.slots p).reserve))
+
+  -- the contexts at a node
+  abbrev pub is_here : Option (Context O) → Bool
+  is_here None = false
+  is_here (Some c) = true
+
+  pub record Loaded (l : Local O) (load : ℕ) : Type 0 where
+    pub bound : ℕ
+    pub beyond : (p : ℕ) → bound ≤ p → (l.slots p).context ≡ None
+    pub sum : load ≡ sum_below bound (λ p. one_if (is_here (l.slots p).context))
+
+  -- the contexts that run at a node, by pid, with their pages
+  abbrev pub movable_as : ℕ → Body O → State → List Movable
+  movable_as p b Running = record { pid = p; pages = O.pages b.user } ∷ []
+  movable_as p b _ = []
+
+  abbrev pub movable_one : ℕ → Option (Context O) → List Movable
+  movable_one p None = []
+  movable_one p (Some c) = movable_as p c.body c.state
+
+  pub record CanMove (l : Local O) (movable : List Movable) : Type 0 where
+    pub bound : ℕ
+    pub beyond : (p : ℕ) → bound ≤ p → (l.slots p).context ≡ None
+    pub is : movable ≡ listed_below bound (λ p. movable_one p (l.slots p).context)
+
+  -- no context runs at a node
+  abbrev pub NoneRuns : Local O → Type 0
+  NoneRuns l = (p : ℕ) (b : Body O) → (l.slots p).context ≢ Some (context O b Running)
+
+  -- a half is due, and to this node: in the first round to the next other node in order; after it to the one that the next word names, where sixteen
+  -- quanta of steps went since the last half, or where nothing runs and load or free are not those last told
+  abbrev pub HalfDueTo : ℕ → ℕ → ℕ → ℕ → Type 0 → Gossip → Type 0
+  HalfDueTo n other load free nothing_runs g =
+      ((g.sent < O.nodes - 1) × (other ≡ other_at n g.sent))
+      ⊎ ((O.nodes - 1 ≤ g.sent) × (other ≡ other_at n (O.word n (g.sent - (O.nodes - 1)) % (O.nodes - 1))) × ((16 ≤ g.steps) ⊎ (nothing_runs × ((load ≢ g.load) ⊎ (free ≢ g.free)))))
+
+  -- one that is sent tells the first four places
+  abbrev pub SendsIf : Bool → ℕ → ℕ → Entry → List (Option Entry) → Local O → Type 0
+  SendsIf false n other own places l = (2 ≤ O.nodes) × HalfDueTo n other own.load own.free (NoneRuns l) l.gossip × (places ≡ told_places own l.gossip)
+  SendsIf true n other own places l = Unit {0}
+
+  abbrev pub seen : ℕ → Entry → List (Option Entry) → List Movable → Sight
+  seen n own vector movable = record { node = n; cap = O.cap; free = own.free; load = own.load; known = known_below O.nodes n vector; movable = movable }
+
+  -- a half that a node sends to another or hears from it: it renews its own entry, tells or merges, and asks its policy on what it then sees
+  pub record Talks (heard : Bool) (n other : ℕ) (chosen : Option Choice) (old : Local O) (t : Turn O) (new : Local O) : Type 0 where
+    pub own : Entry
+    pub places : List (Option Entry)
+    -- of the letter that is heard
+    pub stamp : ℕ
+    pub used : ℕ
+    pub in_use : InUse old used
+    pub loaded : Loaded old own.load
+    pub own_is : own ≡ record { node = n; load = own.load; free = O.cap - used; stamp = t.event.stamp }
+    pub sends : SendsIf heard n other own places old
+    pub gossip : new.gossip ≡ gossip_after heard own places old.gossip
+    pub movable : List Movable
+    pub can_move : CanMove old movable
+    pub chooses : O.Chooses (seen n own new.gossip.vector movable) chosen
+
+  abbrev pub half_taken : Bool → ℕ → ℕ → ℕ → List (Option Entry) → Option (Post O)
+  half_taken false n other stamp places = None
+  half_taken true n other stamp places = Some (letter O other n stamp (Half places))
+
+  abbrev pub half_posts : Bool → ℕ → ℕ → ℕ → List (Option Entry) → List (Post O)
+  half_posts false n other stamp places = letter O n other stamp (Half places) ∷ []
+  half_posts true n other stamp places = []
+
+  -- a half without a choice
+  pub record OnlyTalks (heard : Bool) (n other : ℕ) (old : Local O) (t : Turn O) (new : Local O) : Type 0 where
+    pub talks : Talks heard n other None old t new
+    pub base : Base 0 None (half_taken heard n other talks.stamp talks.places) (half_posts heard n other t.event.stamp talks.places) same same old t new
+    pub still : Settled old new
 
   -- the processes that home pokes after a call of p
   abbrev pub pokes_of : ℕ → O.Kernel → (ℕ → Slot O) → Option ℕ → Option ℕ → List ℕ
@@ -216,7 +295,7 @@ module _ (O : Ops) where
     pub base : Base p None (Some (letter O from n stamp (Call p request))) (letter O n from t.event.stamp (Reply p (done_of O p first (last O first.kernel p (O.room_of request)))) ∷ pokes O t.event.stamp old.believed poked) same same old t new
     pub gossip : new.gossip ≡ old.gossip
     pub believed : (q : ℕ) → new.believed q ≡ born_at O from child old.believed q
-    pub progress : new.progress ≡ served_one p old.progress
+    pub progress : SameProgress new.progress (served_one p old.progress)
 
   -- or it was held
   pub record Retries (n p : ℕ) (manner : Manner) (number : Option ℕ) (value : Option ℤ) (child signal : Option ℕ) (ends : Option End) (more : Bool) (poked : List ℕ) (old : Local O) (t : Turn O) (new : Local O) : Type 0 where
@@ -232,7 +311,7 @@ module _ (O : Ops) where
     pub base : Base p None None (letter O n from t.event.stamp (Reply p (done_of O p first (last O first.kernel p (O.room_of request)))) ∷ pokes O t.event.stamp old.believed poked) (holds None) same old t new
     pub gossip : new.gossip ≡ old.gossip
     pub believed : (q : ℕ) → new.believed q ≡ born_at O from child old.believed q
-    pub progress : new.progress ≡ served_one p old.progress
+    pub progress : SameProgress new.progress (served_one p old.progress)
 
   pub record Pausing (n p : ℕ) (number : Option ℕ) (value : Option ℤ) (child signal : Option ℕ) (ends : Option End) (more : Bool) (poked : List ℕ) (old : Local O) (t : Turn O) (new : Local O) : Type 0 where
     pub home : n ≡ 0
@@ -318,15 +397,32 @@ module _ (O : Ops) where
   PokedBy true n p old t new = Marks n p old t new
   PokedBy false n p old t new = Ignores n p old t new
 
-  pub record Begins (n p to line : ℕ) (old : Local O) (t : Turn O) (new : Local O) : Type 0 where
+  -- the letter that asks for it
+  pub record AskedFor (old new : Local O) : Type 0 where
     pub from : ℕ
     pub stamp : ℕ
     pub hops : ℕ
+    pub gossip : new.gossip ≡ old.gossip
+
+  abbrev pub BeginsFor : Reason → ℕ → ℕ → ℕ → Local O → Turn O → Local O → Type 0
+  BeginsFor (ForLine line) n p to old t new = AskedFor old new
+  BeginsFor (Chosen heard other) n p to old t new = Talks heard n other (Some (record { pid = p; to = to })) old t new
+
+  abbrev pub begin_taken : (reason : Reason) (n p to : ℕ) (old : Local O) (t : Turn O) (new : Local O) → BeginsFor reason n p to old t new → Option (Post O)
+  begin_taken (ForLine line) n p to old t new why = Some (letter O why.from n why.stamp (Go p to why.hops line))
+  begin_taken (Chosen heard other) n p to old t new why = half_taken heard n other why.stamp why.places
+
+  abbrev pub begin_first : (reason : Reason) (n p to : ℕ) (old : Local O) (t : Turn O) (new : Local O) → BeginsFor reason n p to old t new → List (Post O)
+  begin_first (ForLine line) n p to old t new why = []
+  begin_first (Chosen heard other) n p to old t new why = half_posts heard n other t.event.stamp why.places
+
+  pub record Begins (n p to : ℕ) (reason : Reason) (old : Local O) (t : Turn O) (new : Local O) : Type 0 where
     pub body : Body O
     pub was : (old.slots p).context ≡ Some (context O body Running)
     pub away : to ≢ n
-    pub base : Base p None (Some (letter O from n stamp (Go p to hops line))) (letter O n to t.event.stamp (Ask p (O.pages body.user)) ∷ []) (hosts (Some (context O body (Asking to (Some line))))) same old t new
-    pub still : Still old new
+    pub why : BeginsFor reason n p to old t new
+    pub base : Base p None (begin_taken reason n p to old t new why) (begin_first reason n p to old t new why ++ letter O n to t.event.stamp (Ask p (O.pages body.user)) ∷ []) (hosts (Some (context O body (Asking to (line_for reason))))) same old t new
+    pub still : Settled old new
 
   pub record Keeps (n p to line : ℕ) (old : Local O) (t : Turn O) (new : Local O) : Type 0 where
     pub from : ℕ
@@ -531,7 +627,7 @@ module _ (O : Ops) where
   Does (Served p manner number value child signal ends more poked) n old t new = ServedBy manner n p number value child signal ends more poked old t new
   Does (Got p child ended kept) n old t new = Gets n p child ended kept old t new
   Does (Poked p used) n old t new = PokedBy used n p old t new
-  Does (Begin p to line) n old t new = Begins n p to line old t new
+  Does (Begin p to reason) n old t new = Begins n p to reason old t new
   Does (Keep p to line) n old t new = Keeps n p to line old t new
   Does (Missed p to line) n old t new = Misses n p to line old t new
   Does (Again p to place line) n old t new = SendsAgain n p to place line old t new
@@ -543,6 +639,7 @@ module _ (O : Ops) where
   Does (Told p at source hops line poked) n old t new = Hears n p at source hops line poked old t new
   Does (Refused p to why line) n old t new = RefusesGo n p to why line old t new ⊎ RefusesHome n p to why line old t new
   Does (Closed line) n old t new = Closes n line old t new
+  Does (Gossips heard other) n old t new = OnlyTalks heard n other old t new
   Does (Strange p) n old t new = Skips n p old t new
 
   -- the stamp of an event: one more than the clock, and than the stamp of the letter that it takes

@@ -2,7 +2,7 @@
 use Rattle.std.specs.Prelude.{◌≡◌, ◌≢◌, ℕ, nat_lt, ◌-◌, ◌≤◌, ℤ, ◌+◌, ◌<◌, ◌==◌, ◌⊎◌, Bool, true, false, not, cond, Option, Some, None, List}
 use Rattle.call_table.specs.declared.process.End.{End}
 use Rattle.run_tokens.specs.Ops.{Ops, IsMove, is_child, typed, has_text}
-use Rattle.run_tokens.specs.Deeds.{Input, Manner, Did, Broke, Fell, Paused, KeptTold, Deed, Run, Kill, Bid, Unsent, Other, Steps, Sent, Heed, Held, Served, Got, Poked, Begin, Keep, Missed, Again, Allows, Denies, Depart, Stay, Land, Told, Refused, Closed, Strange, pid_of, child_of}
+use Rattle.run_tokens.specs.Deeds.{Input, Manner, Did, Broke, Fell, Paused, KeptTold, ForLine, line_for, Deed, Run, Kill, Bid, Unsent, Other, Steps, Sent, Heed, Held, Served, Got, Poked, Begin, Keep, Missed, Again, Allows, Denies, Depart, Stay, Land, Told, Refused, Closed, Gossips, Strange, pid_of, child_of}
 use Rattle.run_tokens.specs.Notes.{Done, Body, fresh, Kept, Local, is_some}
 use Rattle.run_tokens.specs.Home.{both, UnsentFor, returned, after, First, last, Acts, Answers, done_of, first_none, to_poke, fits_done}
 use Rattle.run_tokens.specs.Spots.{Spot, Nowhere, Runs, Calls, Holds, Pauses, Answered, Asks, Granted, Denied, Travels, InReply, Ended}
@@ -228,11 +228,11 @@ module _ (O : Ops) where
   PokedSo true n s r = Marked n s r
   PokedSo false n s r = Dropped n s r
 
-  pub record Begun (n to line : ℕ) (s r : Spot O) : Type 0 where
+  pub record Begun (n to : ℕ) (line : Option ℕ) (s r : Spot O) : Type 0 where
     pub body : Body O
     pub away : to ≢ n
     pub was : s ≡ Runs n body
-    pub now : r ≡ Asks n body to (Some line) (O.pages body.user)
+    pub now : r ≡ Asks n body to line (O.pages body.user)
 
   pub record KeptMove (n to line : ℕ) (s r : Spot O) : Type 0 where
     pub away : to ≢ n
@@ -299,7 +299,7 @@ module _ (O : Ops) where
   Needs (Served p manner number value child signal ends more poked) n old new s r = ServedSo manner n p number value child signal ends more poked old new s r
   Needs (Got p child ended kept) n old new s r = Quiet (GotReply n p child ended kept s r) old new
   Needs (Poked p used) n old new s r = Quiet (PokedSo used n s r) old new
-  Needs (Begin p to line) n old new s r = Quiet (Begun n to line s r) old new
+  Needs (Begin p to reason) n old new s r = Quiet (Begun n to (line_for reason) s r) old new
   Needs (Keep p to line) n old new s r = Quiet (KeptMove n to line s r) old new
   Needs (Missed p to line) n old new s r = Quiet (MissedIt n s r) old new
   Needs (Again p to place line) n old new s r = Quiet (Stayed ((n ≡ 0) × (O.live old.kernel p ≡ true)) s r) old new
@@ -311,11 +311,12 @@ module _ (O : Ops) where
   Needs (Told p at source hops line poked) n old new s r = Quiet (Stayed ((n ≡ 0) × (poked ≡ is_some (O.lowest old.kernel p))) s r) old new
   Needs (Refused p to why line) n old new s r = Quiet (Stayed ((RefusedFor O why n to (old.slots p).context) ⊎ ((n ≡ 0) × ((hops : ℕ) × NoNews O why p hops old))) s r) old new
   Needs (Closed line) n old new s r = Quiet (Stayed (n ≡ 0) s r) old new
+  Needs (Gossips heard other) n old new s r = Quiet (Stayed (Unit {0}) s r) old new
   Needs (Strange p) n old new s r = ⊥
 
   -- what an event that takes a loose letter has of it: its line asks for this move, or a landing is told with its number
   abbrev pub Names : Deed → Type 0
-  Names (Begin p to line) = IsMove O line p to
+  Names (Begin p to (ForLine line)) = IsMove O line p to
   Names (Keep p to line) = IsMove O line p to
   Names (Missed p to line) = IsMove O line p to
   Names (Again p to place line) = IsMove O line p to
@@ -415,7 +416,7 @@ module _ (O : Ops) where
   born_spot (Served p manner number value child signal ends more poked) n s q = InReply p (O.forked (user_at s) q)
   born_spot (Got p child ended kept) n s q = Runs n (fresh O (O.forked (user_at s) q))
   born_spot (Poked p used) n s q = s
-  born_spot (Begin p to line) n s q = s
+  born_spot (Begin p to reason) n s q = s
   born_spot (Keep p to line) n s q = s
   born_spot (Missed p to line) n s q = s
   born_spot (Again p to place line) n s q = s
@@ -427,6 +428,7 @@ module _ (O : Ops) where
   born_spot (Told p at source hops line poked) n s q = s
   born_spot (Refused p to why line) n s q = s
   born_spot (Closed line) n s q = s
+  born_spot (Gossips heard other) n s q = s
   born_spot (Strange p) n s q = s
 
   -- the spots after an event, whose process is then at r

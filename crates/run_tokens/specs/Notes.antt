@@ -1,5 +1,5 @@
 -- Letters between nodes, contexts, and what a node keeps of each process.
-use Rattle.std.specs.Prelude.{ℕ, ◌+◌, ◌==◌, cond, [], Bool, true, false, Option, Some, None, List}
+use Rattle.std.specs.Prelude.{◌≡◌, ℕ, ◌+◌, ◌==◌, cond, [], Bool, true, false, Option, Some, None, List}
 use Rattle.run_tokens.specs.Ops.{Ops}
 use Rattle.run_tokens.specs.Gossip.{Entry, Gossip}
 use Rattle.run_tokens.specs.Deeds.{Noted}
@@ -18,7 +18,7 @@ pub record Believed : Type 0 where
   pub place : ℕ
   pub hops : ℕ
 
--- how far the script has come: the last line that was carried out, how many were, the pids launched, and how many calls of each pid were served
+-- how far the script has come: the least line that may come next, how many were carried out, the pids launched, and how many calls of each pid were served
 pub record Progress : Type 0 where
   pub line : ℕ
   pub done : ℕ
@@ -27,6 +27,13 @@ pub record Progress : Type 0 where
 
 abbrev pub no_progress : Progress
 no_progress = record { line = 0; done = 0; launched = []; served = λ p. 0 }
+
+-- the same, with the calls of each pid
+pub record SameProgress (g h : Progress) : Type 0 where
+  pub line : g.line ≡ h.line
+  pub done : g.done ≡ h.done
+  pub launched : g.launched ≡ h.launched
+  pub served : (p : ℕ) → g.served p ≡ h.served p
 
 -- one more call of p was served
 abbrev pub served_one : ℕ → Progress → Progress

@@ -1,17 +1,22 @@
 -- When a turn without a letter has something to do, and when a node rests.
-use Rattle.std.specs.Prelude.{◌≡◌, ◌≢◌, ◌<◌, ◌≤◌, ◌⊎◌, ℕ, false, Option, Some, None, [], length, slice_get}
+use Rattle.std.specs.Prelude.{◌≡◌, ◌≢◌, ◌-◌, ◌<◌, ◌≤◌, ◌⊎◌, ℕ, false, Option, Some, None, [], length, slice_get}
 use Rattle.node_event.specs.declared.script.ScriptLine.{ScriptLine}
 use Rattle.run_tokens.specs.Ops.{Ops}
 use Rattle.run_tokens.specs.Notes.{Post, Running, Body, context, Called, Local}
 use Rattle.run_tokens.specs.Cluster.{World}
-use Rattle.run_tokens.specs.Does.{EnabledHere}
+use Rattle.run_tokens.specs.Does.{EnabledHere, InUse, Loaded, NoneRuns, HalfDueTo}
 
 -- what a turn without a letter does, in the order of the rotation: home serves a held call, a node lets a context run on, home carries out the script's next
--- line. (A half that is due will be the fourth.)
+-- line, a node sends a half that is due
 pub data Kind : Type 0 where
   Retry : (pid : ℕ) → Kind
   RunOn : (pid : ℕ) → Kind
   NextLine : Kind
+  SendHalf : (other : ℕ) → Kind
+
+abbrev pub IsHalf : Kind → Type 0
+IsHalf (SendHalf other) = Unit {0}
+IsHalf _ = ⊥
 
 module _ (O : Ops) where
   -- a held call may go on: it blocks no more, or a signal is deliverable
@@ -30,25 +35,22 @@ module _ (O : Ops) where
     pub next : slice_get O.script l.progress.done ≡ Some line
     pub enabled : EnabledHere O line.order l
 
+  -- a half to this node is due
+  pub record HalfReady (n other : ℕ) (l : Local O) : Type 0 where
+    pub below : n < O.nodes
+    pub many : 2 ≤ O.nodes
+    pub load : ℕ
+    pub loaded : Loaded O l load
+    pub used : ℕ
+    pub in_use : InUse O l used
+    pub due : HalfDueTo O n other load (O.cap - used) (NoneRuns O l) l.gossip
+
   -- this kind of turn has something to do at node n
   abbrev pub Applies : Kind → ℕ → Local O → Type 0
   Applies (Retry p) n l = (n ≡ 0) × MayGoOn l p
   Applies (RunOn p) n l = RunsHere l p
   Applies NextLine n l = (n ≡ 0) × LineReady l
-
-  -- of two nodes or more, one that went on for sixteen quanta since its last half sends a half before the next quantum: before p steps on
-  pub record HalfFirst (l : Local O) (p : ℕ) : Type 0 where
-    pub body : Body O
-    pub runs : (l.slots p).context ≡ Some (context O body Running)
-    pub unpoked : body.poked ≡ false
-    pub steps : O.asks body.user ≡ None
-    pub others : 2 ≤ O.nodes
-    pub due : 16 ≤ l.gossip.steps
-
-  -- a half is due before a turn of this kind
-  abbrev pub HalfDue : Kind → Local O → Type 0
-  HalfDue (RunOn p) l = HalfFirst l p
-  HalfDue _ l = ⊥
+  Applies (SendHalf other) n l = HalfReady n other l
 
   -- a turn without a letter has nothing to do
   abbrev pub Rests : ℕ → Local O → Type 0
