@@ -49,7 +49,7 @@ one_target l p to e = go (1 == l) (2 == l) e
     go false true x = let same : 1 ≡ to = cc in omega (arith, same)
     go false false x = absurd cc
 
-hello_sound : Sound hello
+pub hello_sound : Sound hello
 hello_sound = sound_of 1 no_choice (omega arith) (λ s c e. absurd cc) hello_script (program (Step ∷ Step ∷ Step ∷ Step ∷ Step ∷ Calls (WriteCall 3) ∷ Step ∷ Step ∷ Calls (ExitCall 0) ∷ []) ∷ []) one_line no_target
 
 reader_sound : Sound reader
