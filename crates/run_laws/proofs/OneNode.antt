@@ -1,14 +1,14 @@
 -- A run of one node stays at home.
 use Rattle.std.proofs.Common.{◌≡◌, ◌≢◌, ℕ, ◌<◌, ◌⊎◌, inl, inr, true, false, Option, Some, List, [], ◌∷◌, refl, sym, ap, ◌∙◌, arith}
-use Rattle.run_tokens.specs.Ops.{Ops, Sound}
-use Rattle.run_tokens.specs.Gossip.{Entry, Talk, Silent, Stepping, talk_of}
-use Rattle.run_tokens.specs.Deeds.{ForLine, Chosen, Deed, Run, Kill, Bid, Unsent, Other, Steps, Sent, Heed, Held, Served, Got, Poked, Begin, Keep, Missed, Again, Allows, Denies, Depart, Stay, Land, Told, Refused, Closed, Gossips, Strange, Noted}
-use Rattle.run_tokens.specs.Notes.{Half, letter, Turn, Local}
-use Rattle.run_tokens.specs.Spots.{Spot}
-use Rattle.run_tokens.specs.Does.{Does}
-use Rattle.run_tokens.specs.Cluster.{World, Reached, events}
-use Rattle.run_tokens.specs.Needs.{Names}
-use Rattle.run_tokens.proofs.Stand.{Path, names_at, reached_stands}
+use Rattle.protocol.specs.Ops.{Ops, Sound}
+use Rattle.protocol.specs.Gossip.{Entry, Talk, Silent, Stepping, talk_of}
+use Rattle.protocol.specs.Deeds.{ForLine, Chosen, Deed, Run, Kill, Bid, Unsent, Other, Steps, Sent, Heed, Held, Served, Got, Poked, Begin, Keep, Missed, Again, Allows, Denies, Depart, Stay, Land, Told, Refused, Closed, Gossips, Strange, Noted}
+use Rattle.protocol.specs.Notes.{Half, letter, Turn, Local}
+use Rattle.protocol.specs.Spots.{Spot}
+use Rattle.protocol.specs.Does.{Does}
+use Rattle.protocol.specs.Cluster.{World, Reached, events}
+use Rattle.protocol.specs.Needs.{Names}
+use Rattle.protocol.proofs.Stand.{Path, names_at, reached_stands}
 use Rattle.run_laws.specs.Vectors.{Exchange, exchanged_by, exchanged}
 use Rattle.run_laws.specs.OneNode.{StaysHome, AllHome}
 use Rattle.run_laws.proofs.HalfTargets.{choice_near}

@@ -1,6 +1,6 @@
 -- What a run of one node is: it tells nothing of itself, and no process begins to move.
 use Rattle.std.specs.Prelude.{◌≡◌, List}
-use Rattle.run_tokens.specs.Deeds.{Deed, Begin, Keep, Gossips, Noted}
+use Rattle.protocol.specs.Deeds.{Deed, Begin, Keep, Gossips, Noted}
 use Rattle.run_laws.specs.Carried.{Each}
 
 abbrev pub StaysHome : Deed → Type 0

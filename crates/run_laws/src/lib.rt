@@ -4,11 +4,11 @@
 
 ghost use Rattle.std.specs.Prelude.{◌≡◌, ◌≤◌, ◌<◌, ◌∷◌, ℕ, List, length};
 ghost use Rattle.node_event.specs.declared.event.Event.{Event};
-ghost use Rattle.run_tokens.specs.Deeds.{all_noted};
-ghost use Rattle.run_tokens.specs.Notes.{Post, Turn};
-ghost use Rattle.run_tokens.specs.Cluster.{World, Reached, events};
-ghost use Rattle.run_tokens.specs.Odd.{IsOdd, Timed, hops_end};
-ghost use Rattle.run_tokens.specs.Rests.{Awaits, AllRest};
+ghost use Rattle.protocol.specs.Deeds.{all_noted};
+ghost use Rattle.protocol.specs.Notes.{Post, Turn};
+ghost use Rattle.protocol.specs.Cluster.{World, Reached, events};
+ghost use Rattle.protocol.specs.Odd.{IsOdd, Timed, hops_end};
+ghost use Rattle.protocol.specs.Rests.{Awaits, AllRest};
 ghost use Rattle.run_laws.specs.Lawful.{Lawful};
 ghost use Rattle.run_laws.specs.Grounds.{Grounded};
 ghost use Rattle.run_laws.specs.Outcomes.{outcomes};

@@ -1,10 +1,10 @@
 -- When a turn without a letter has something to do, and when a node rests.
 use Rattle.std.specs.Prelude.{◌≡◌, ◌≢◌, ◌-◌, ◌<◌, ◌≤◌, ◌⊎◌, ℕ, false, Option, Some, None, [], length, slice_get}
 use Rattle.node_event.specs.declared.script.ScriptLine.{ScriptLine}
-use Rattle.run_tokens.specs.Ops.{Ops}
-use Rattle.run_tokens.specs.Notes.{Post, Running, Body, context, Called, Local}
-use Rattle.run_tokens.specs.Cluster.{World}
-use Rattle.run_tokens.specs.Does.{EnabledHere, InUse, Loaded, NoneRuns, HalfDueTo}
+use Rattle.protocol.specs.Ops.{Ops}
+use Rattle.protocol.specs.Notes.{Post, Running, Body, context, Called, Local}
+use Rattle.protocol.specs.Cluster.{World}
+use Rattle.protocol.specs.Does.{EnabledHere, InUse, Loaded, NoneRuns, HalfDueTo}
 
 -- what a turn without a letter does, in the order of the rotation: home serves a held call, a node lets a context run on, home carries out the script's next
 -- line, a node sends a half that is due

@@ -1,6 +1,6 @@
 -- Which nodes the places of a vector name.
 use Rattle.std.proofs.Common.{ℕ, zero, suc, ◌<◌, inl, inr, Option, Some, None, List, [], ◌∷◌, arith}
-use Rattle.run_tokens.specs.Gossip.{Entry, FarPlaces, NearPlaces, renewed, first_places, woven}
+use Rattle.protocol.specs.Gossip.{Entry, FarPlaces, NearPlaces, renewed, first_places, woven}
 
 pub not_far : (nodes : ℕ) (places : List (Option Entry)) → NearPlaces nodes places → FarPlaces nodes places → ⊥
 not_far nodes [] near far = far

@@ -1,6 +1,6 @@
 -- Load vectors, what a policy sees, and what it chooses.
 use Rattle.std.specs.Prelude.{◌≡◌, ℕ, zero, suc, nat_lt, ◌+◌, ◌<◌, ◌≤◌, ◌==◌, ◌⊎◌, Bool, true, false, cond, Option, Some, None, List, [], ◌∷◌, ◌++◌}
-use Rattle.run_tokens.specs.Deeds.{Deed, Steps, Begin, Chosen, Gossips}
+use Rattle.protocol.specs.Deeds.{Deed, Steps, Begin, Chosen, Gossips}
 
 -- what a node told of itself: its contexts and its free pages at a stamp
 pub record Entry : Type 0 where

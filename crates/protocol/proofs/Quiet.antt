@@ -1,11 +1,11 @@
 -- What an event does to spots alone: a process that was nowhere stays so, moves go to other nodes, and children belong to their parents' answers.
 use Rattle.std.proofs.Common.{◌≡◌, ◌≢◌, ℕ, ◌+◌, ◌⊎◌, inl, inr, Bool, true, false, cond, Option, Some, None, List, refl, sym, ap, ◌∙◌, subst}
-use Rattle.run_tokens.specs.Ops.{Ops, Sound, counted, typed}
-use Rattle.run_tokens.specs.Deeds.{Manner, Did, Broke, Fell, Paused, Deed, Run, Kill, Bid, Unsent, Other, Steps, Sent, Heed, Held, Served, Got, Poked, Begin, Keep, Missed, Again, Allows, Denies, Depart, Stay, Land, Told, Refused, Closed, Gossips, Strange, pid_of, Input, Text, Finish, Nothing}
-use Rattle.run_tokens.specs.Notes.{Done, Body, Kept, Local}
-use Rattle.run_tokens.specs.Spots.{Spot, Nowhere, Runs, Calls, Holds, Pauses, Answered, Asks, Granted, Denied, Travels, InReply, Ended}
-use Rattle.run_tokens.specs.Home.{First, last, last_by, Acts, give, enter, returned, after}
-use Rattle.run_tokens.specs.Needs.{Needs, ServedSo, ServedCall, got_spot, asked, FreeAt, mark, keep_in, Aims, KeptAims, Named}
+use Rattle.protocol.specs.Ops.{Ops, Sound, counted, typed}
+use Rattle.protocol.specs.Deeds.{Manner, Did, Broke, Fell, Paused, Deed, Run, Kill, Bid, Unsent, Other, Steps, Sent, Heed, Held, Served, Got, Poked, Begin, Keep, Missed, Again, Allows, Denies, Depart, Stay, Land, Told, Refused, Closed, Gossips, Strange, pid_of, Input, Text, Finish, Nothing}
+use Rattle.protocol.specs.Notes.{Done, Body, Kept, Local}
+use Rattle.protocol.specs.Spots.{Spot, Nowhere, Runs, Calls, Holds, Pauses, Answered, Asks, Granted, Denied, Travels, InReply, Ended}
+use Rattle.protocol.specs.Home.{First, last, last_by, Acts, give, enter, returned, after}
+use Rattle.protocol.specs.Needs.{Needs, ServedSo, ServedCall, got_spot, asked, FreeAt, mark, keep_in, Aims, KeptAims, Named}
 use Rattle.std.specs.Prelude.{ℤ}
 use Rattle.call_table.specs.declared.process.End.{End}
 

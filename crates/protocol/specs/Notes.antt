@@ -1,8 +1,8 @@
 -- Letters between nodes, contexts, and what a node keeps of each process.
 use Rattle.std.specs.Prelude.{◌≡◌, ℕ, ◌+◌, ◌==◌, cond, [], Bool, true, false, Option, Some, None, List}
-use Rattle.run_tokens.specs.Ops.{Ops}
-use Rattle.run_tokens.specs.Gossip.{Entry, Gossip}
-use Rattle.run_tokens.specs.Deeds.{Noted}
+use Rattle.protocol.specs.Ops.{Ops}
+use Rattle.protocol.specs.Gossip.{Entry, Gossip}
+use Rattle.protocol.specs.Deeds.{Noted}
 
 pub record Kept : Type 0 where
   pub to : ℕ

@@ -1,26 +1,26 @@
 -- The process invariant, and the induction over every run of the cluster.
 use Rattle.std.proofs.Common.{◌≡◌, ◌≢◌, ℕ, suc, ◌+◌, ◌<◌, ◌≤◌, ◌==◌, ◌&&◌, ◌⊎◌, inl, inr, Bool, true, false, cond, Option, Some, None, List, [], ◌∷◌, ◌++◌, refl, sym, ap, ◌∙◌, subst, arith}
-use Rattle.run_tokens.specs.Ops.{Ops, Sound, counted, sum_below, one_if, lives_in}
-use Rattle.run_tokens.specs.Deeds.{Manner, Did, Broke, Fell, Paused, ForLine, Chosen, Deed, Run, Kill, Bid, Unsent, Other, Steps, Sent, Heed, Held, Served, Got, Poked, Begin, Keep, Missed, Again, Allows, Denies, Depart, Stay, Land, Told, Refused, Closed, Gossips, Strange, pid_of, child_of}
-use Rattle.run_tokens.specs.Notes.{Done, Note, Call, Pause, Reply, Poke, Half, Go, NotHere, Ask, Allow, Deny, Move, Landed, NoMove, Post, Turn, letter, Body, fresh, Kept, Slot, Local, Believed, Waiting}
-use Rattle.run_tokens.specs.Spots.{Spot, Nowhere, Runs, Calls, Holds, Pauses, Answered, Asks, Granted, Denied, Travels, InReply, Ended, goal, reserved, slot_by}
-use Rattle.run_tokens.specs.Cluster.{World, for_link, at_front, Goes, Starts, Reached}
-use Rattle.run_tokens.specs.Gossip.{Entry, Gossip, NearPlaces, renewed, told_places, Choice, Talk, Silent, Stepping, Talking, talk_of}
-use Rattle.run_tokens.proofs.Places.{near_renewed, near_first, near_woven}
-use Rattle.run_tokens.proofs.Talking.{GossipBy, gossip_by, own_below}
-use Rattle.run_tokens.specs.Does.{Does, ServedBy, Talks, Lands, Reserved, is_reserved, got_posts}
-use Rattle.run_tokens.specs.Home.{after, pokes, line_closed, Given, NeverGiven}
-use Rattle.run_tokens.specs.Needs.{Names, Needs, Aims, Coupled, brings, user_at, born_spot, next_spot, alive, Right, Named}
-use Rattle.run_tokens.proofs.Talk.{same_numbers, numbers_same, numbers_other, talk}
-use Rattle.run_tokens.proofs.Process.{cond_same, At, StateTells, context_tells}
-use Rattle.run_tokens.proofs.Own.{Turned, land_own}
-use Rattle.run_tokens.proofs.Run.{Bound, BoundOf, Knows, own_at, other_at, served_frame, got_child, born_child}
-use Rattle.run_tokens.proofs.Quiet.{born_count, counts, child_so, home_so, nowhere, nowhere_so, aims, named}
-use Rattle.run_tokens.proofs.Coupling.{gentle, so_out, so_brings, got_brings, Part, Own, Child, Rest, part, at_own, at_child, at_rest, coupled_quiet, coupled_fork, coupled_got}
+use Rattle.protocol.specs.Ops.{Ops, Sound, counted, sum_below, one_if, lives_in}
+use Rattle.protocol.specs.Deeds.{Manner, Did, Broke, Fell, Paused, ForLine, Chosen, Deed, Run, Kill, Bid, Unsent, Other, Steps, Sent, Heed, Held, Served, Got, Poked, Begin, Keep, Missed, Again, Allows, Denies, Depart, Stay, Land, Told, Refused, Closed, Gossips, Strange, pid_of, child_of}
+use Rattle.protocol.specs.Notes.{Done, Note, Call, Pause, Reply, Poke, Half, Go, NotHere, Ask, Allow, Deny, Move, Landed, NoMove, Post, Turn, letter, Body, fresh, Kept, Slot, Local, Believed, Waiting}
+use Rattle.protocol.specs.Spots.{Spot, Nowhere, Runs, Calls, Holds, Pauses, Answered, Asks, Granted, Denied, Travels, InReply, Ended, goal, reserved, slot_by}
+use Rattle.protocol.specs.Cluster.{World, for_link, at_front, Goes, Starts, Reached}
+use Rattle.protocol.specs.Gossip.{Entry, Gossip, NearPlaces, renewed, told_places, Choice, Talk, Silent, Stepping, Talking, talk_of}
+use Rattle.protocol.proofs.Places.{near_renewed, near_first, near_woven}
+use Rattle.protocol.proofs.Talking.{GossipBy, gossip_by, own_below}
+use Rattle.protocol.specs.Does.{Does, ServedBy, Talks, Lands, Reserved, is_reserved, got_posts}
+use Rattle.protocol.specs.Home.{after, pokes, line_closed, Given, NeverGiven}
+use Rattle.protocol.specs.Needs.{Names, Needs, Aims, Coupled, brings, user_at, born_spot, next_spot, alive, Right, Named}
+use Rattle.protocol.proofs.Talk.{same_numbers, numbers_same, numbers_other, talk}
+use Rattle.protocol.proofs.Process.{cond_same, At, StateTells, context_tells}
+use Rattle.protocol.proofs.Own.{Turned, land_own}
+use Rattle.protocol.proofs.Run.{Bound, BoundOf, Knows, own_at, other_at, served_frame, got_child, born_child}
+use Rattle.protocol.proofs.Quiet.{born_count, counts, child_so, home_so, nowhere, nowhere_so, aims, named}
+use Rattle.protocol.proofs.Coupling.{gentle, so_out, so_brings, got_brings, Part, Own, Child, Rest, part, at_own, at_child, at_rest, coupled_quiet, coupled_fork, coupled_got}
 use Rattle.std.proofs.lemmas.Bool.Decides.{leb_tells}
 use lib.Dec.{leb}
-use Rattle.run_tokens.proofs.Alive.{LivesAt, lives_at, born_plain, GrowsFew, grows_few, last_alive}
-use Rattle.run_tokens.proofs.Sums.{one_most, sum_grows, sum_ends, sum_less, sum_below_le}
+use Rattle.protocol.proofs.Alive.{LivesAt, lives_at, born_plain, GrowsFew, grows_few, last_alive}
+use Rattle.protocol.proofs.Sums.{one_most, sum_grows, sum_ends, sum_less, sum_below_le}
 use Rattle.std.specs.Prelude.{ℤ}
 use Rattle.call_table.specs.declared.process.End.{End}
 

@@ -1,6 +1,6 @@
 -- The same progress, call by call, is one.
 use Rattle.std.proofs.Common.{◌≡◌, refl}
-use Rattle.run_tokens.specs.Notes.{Progress, SameProgress}
+use Rattle.protocol.specs.Notes.{Progress, SameProgress}
 
 pub as_one : {g h : Progress} → SameProgress g h → g ≡ h
 as_one e = λ i. record { line = e.line i; done = e.done i; launched = e.launched i; served = λ p. (e.served p) i }

@@ -1,10 +1,10 @@
 -- The nodes and links together, as a transition system.
 use Rattle.std.specs.Prelude.{◌≡◌, ◌≢◌, ℕ, ◌==◌, ◌&&◌, cond, Option, Some, None, List, ◌∷◌, map, ◌++◌, []}
-use Rattle.run_tokens.specs.Ops.{Ops}
-use Rattle.run_tokens.specs.Gossip.{no_gossip}
-use Rattle.run_tokens.specs.Deeds.{Noted}
-use Rattle.run_tokens.specs.Notes.{no_progress, Post, Turn, Local}
-use Rattle.run_tokens.specs.Does.{Makes}
+use Rattle.protocol.specs.Ops.{Ops}
+use Rattle.protocol.specs.Gossip.{no_gossip}
+use Rattle.protocol.specs.Deeds.{Noted}
+use Rattle.protocol.specs.Notes.{no_progress, Post, Turn, Local}
+use Rattle.protocol.specs.Does.{Makes}
 
 module _ (O : Ops) where
   pub record World : Type 0 where

@@ -1,12 +1,12 @@
 -- What each event needs of its process's spot, and what it makes of it. All laws follow from this alone.
 use Rattle.std.specs.Prelude.{◌≡◌, ◌≢◌, ℕ, nat_lt, ◌-◌, ◌≤◌, ℤ, ◌+◌, ◌<◌, ◌==◌, ◌⊎◌, Bool, true, false, not, cond, Option, Some, None, List}
 use Rattle.call_table.specs.declared.process.End.{End}
-use Rattle.run_tokens.specs.Ops.{Ops, IsMove, is_child, typed, has_text}
-use Rattle.run_tokens.specs.Deeds.{Input, Manner, Did, Broke, Fell, Paused, KeptTold, ForLine, line_for, Deed, Run, Kill, Bid, Unsent, Other, Steps, Sent, Heed, Held, Served, Got, Poked, Begin, Keep, Missed, Again, Allows, Denies, Depart, Stay, Land, Told, Refused, Closed, Gossips, Strange, pid_of, child_of}
-use Rattle.run_tokens.specs.Notes.{Done, Body, fresh, Kept, Local, is_some}
-use Rattle.run_tokens.specs.Home.{both, UnsentFor, returned, after, First, last, Acts, Answers, done_of, first_none, to_poke, fits_done}
-use Rattle.run_tokens.specs.Spots.{Spot, Nowhere, Runs, Calls, Holds, Pauses, Answered, Asks, Granted, Denied, Travels, InReply, Ended}
-use Rattle.run_tokens.specs.Does.{Quantum, InUse, pokes_of, kept_told, RefusedFor, NoNews}
+use Rattle.protocol.specs.Ops.{Ops, IsMove, is_child, typed, has_text}
+use Rattle.protocol.specs.Deeds.{Input, Manner, Did, Broke, Fell, Paused, KeptTold, ForLine, line_for, Deed, Run, Kill, Bid, Unsent, Other, Steps, Sent, Heed, Held, Served, Got, Poked, Begin, Keep, Missed, Again, Allows, Denies, Depart, Stay, Land, Told, Refused, Closed, Gossips, Strange, pid_of, child_of}
+use Rattle.protocol.specs.Notes.{Done, Body, fresh, Kept, Local, is_some}
+use Rattle.protocol.specs.Home.{both, UnsentFor, returned, after, First, last, Acts, Answers, done_of, first_none, to_poke, fits_done}
+use Rattle.protocol.specs.Spots.{Spot, Nowhere, Runs, Calls, Holds, Pauses, Answered, Asks, Granted, Denied, Travels, InReply, Ended}
+use Rattle.protocol.specs.Does.{Quantum, InUse, pokes_of, kept_told, RefusedFor, NoNews}
 
 module _ (O : Ops) where
   -- a call that home has not served yet: its letter is under way, or home holds it

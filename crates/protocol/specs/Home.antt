@@ -1,8 +1,8 @@
 -- What home does: the call itself, the taking of a signal, the pokes.
 use Rattle.std.specs.Prelude.{◌≡◌, ◌≢◌, ℕ, ◌+◌, ◌<◌, ◌≤◌, ◌==◌, ◌⊎◌, nat_lt, ◌&&◌, Bool, true, false, not, cond, Option, Some, None, List, ◌∷◌, ℤ, []}
-use Rattle.run_tokens.specs.Ops.{Ops, Acted, is_child}
-use Rattle.run_tokens.specs.Deeds.{Manner, Did, Broke, Fell, Paused}
-use Rattle.run_tokens.specs.Notes.{Believed, is_some, Done, Poke, NoMove, Post, letter, Body, Called, Slot}
+use Rattle.protocol.specs.Ops.{Ops, Acted, is_child}
+use Rattle.protocol.specs.Deeds.{Manner, Did, Broke, Fell, Paused}
+use Rattle.protocol.specs.Notes.{Believed, is_some, Done, Poke, NoMove, Post, letter, Body, Called, Slot}
 use Rattle.call_table.specs.declared.process.End.{End}
 
 -- one pid or two, the lower first, and each once

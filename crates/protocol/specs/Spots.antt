@@ -1,7 +1,7 @@
 -- Where a process is, in one word, and its pictures: what each node and each link then has of it.
 use Rattle.std.specs.Prelude.{ℕ, ◌==◌, Bool, true, false, cond, Option, Some, None}
-use Rattle.run_tokens.specs.Ops.{Ops}
-use Rattle.run_tokens.specs.Notes.{Kept, Running, Waiting, Asking, Done, Note, Call, Pause, Reply, Poke, Half, Go, NotHere, Ask, Allow, Deny, Move, Landed, NoMove, Body, Context, context, Called, Slot, Way, way}
+use Rattle.protocol.specs.Ops.{Ops}
+use Rattle.protocol.specs.Notes.{Kept, Running, Waiting, Asking, Done, Note, Call, Pause, Reply, Poke, Half, Go, NotHere, Ask, Allow, Deny, Move, Landed, NoMove, Body, Context, context, Called, Slot, Way, way}
 
 module _ (O : Ops) where
   -- where a process is, and what is under way for it

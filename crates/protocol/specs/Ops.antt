@@ -3,8 +3,8 @@ use Rattle.std.specs.Prelude.{◌≡◌, ◌<◌, ◌≤◌, ◌≢◌, ℕ, zer
 use Rattle.call_table.specs.declared.process.End.{End}
 use Rattle.node_event.specs.declared.script.Order.TheVariants as order
 use Rattle.node_event.specs.declared.script.ScriptLine.{ScriptLine}
-use Rattle.run_tokens.specs.Gossip.{Sight, Choice, IsKnown, IsMovable}
-use Rattle.run_tokens.specs.Deeds.{order_at, Input, Text, Finish, Nothing}
+use Rattle.protocol.specs.Gossip.{Sight, Choice, IsKnown, IsMovable}
+use Rattle.protocol.specs.Deeds.{order_at, Input, Text, Finish, Nothing}
 
 -- what a call did
 pub record Acted (K A : Type 0) : Type 0 where

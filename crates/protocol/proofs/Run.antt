@@ -1,18 +1,18 @@
 -- Over every list of turns that the cluster can make, each process is at its spot, and each event finds the spot that it needs.
 use Rattle.std.proofs.Common.{◌≡◌, ◌≤◌, ◌≢◌, ℕ, ◌<◌, ◌==◌, ◌⊎◌, inl, inr, Bool, true, false, cond, Option, Some, None, List, [], ◌∷◌, refl, sym, ap, ◌∙◌, subst, arith}
-use Rattle.run_tokens.specs.Ops.{Ops, IsMove, is_child}
-use Rattle.run_tokens.specs.Deeds.{Manner, Did, Broke, Fell, Paused, KeptTold, ForLine, Chosen, Deed, Run, Kill, Bid, Unsent, Other, Steps, Sent, Heed, Held, Served, Got, Poked, Begin, Keep, Missed, Again, Allows, Denies, Depart, Stay, Land, Told, Refused, Closed, Gossips, Strange, pid_of, child_of}
-use Rattle.run_tokens.specs.Notes.{Done, Note, Call, Pause, Reply, Poke, Half, Go, NotHere, Ask, Allow, Deny, Move, Landed, NoMove, Post, Turn, letter, Body, fresh, Kept, State, Running, Waiting, Context, context, Slot, Local, way}
-use Rattle.run_tokens.specs.Spots.{Spot, Nowhere, Runs, Calls, Pauses, Answered, Asks, Granted, Denied, Travels, InReply, slot_by, way_by, mine}
-use Rattle.run_tokens.specs.Does.{Base, hosts, same, Does, ServedBy, PokedBy, Skips, Misfit, WrongChild, Reserved, FarNode, pid_of_note, got_posts}
-use Rattle.run_tokens.specs.Cluster.{World, Goes}
-use Rattle.run_tokens.specs.Gossip.{NearPlaces}
-use Rattle.run_tokens.proofs.Places.{not_far}
-use Rattle.run_tokens.specs.Home.{after, fits_done, Given, NeverGiven}
-use Rattle.run_tokens.specs.Needs.{Needs, ServedSo, PokedSo, Quiet, Aims, Right, Named, alive, brings}
-use Rattle.run_tokens.proofs.Talk.{same_numbers, Of, AllOf, TakenOf, Loose, all_other, taken_other, talk_loose, pokes_of, pokes_loose, closed_of}
-use Rattle.run_tokens.proofs.Process.{cond_here, cond_off, cond_same, At, Letters, letters_of, took_way, way_tells, settle, rests}
-use Rattle.run_tokens.proofs.Own.{Turned, same_slot, loose_in, takes_in, silent, launch_own, step_own, send_own, heed_own, hold_own, serve_own, retry_own, pause_own, get_own, mark_own, ignore_own, miss_own, begin_own, keep_own, grant_own, refuse_own, depart_own, stay_here_own, land_own, stay_own}
+use Rattle.protocol.specs.Ops.{Ops, IsMove, is_child}
+use Rattle.protocol.specs.Deeds.{Manner, Did, Broke, Fell, Paused, KeptTold, ForLine, Chosen, Deed, Run, Kill, Bid, Unsent, Other, Steps, Sent, Heed, Held, Served, Got, Poked, Begin, Keep, Missed, Again, Allows, Denies, Depart, Stay, Land, Told, Refused, Closed, Gossips, Strange, pid_of, child_of}
+use Rattle.protocol.specs.Notes.{Done, Note, Call, Pause, Reply, Poke, Half, Go, NotHere, Ask, Allow, Deny, Move, Landed, NoMove, Post, Turn, letter, Body, fresh, Kept, State, Running, Waiting, Context, context, Slot, Local, way}
+use Rattle.protocol.specs.Spots.{Spot, Nowhere, Runs, Calls, Pauses, Answered, Asks, Granted, Denied, Travels, InReply, slot_by, way_by, mine}
+use Rattle.protocol.specs.Does.{Base, hosts, same, Does, ServedBy, PokedBy, Skips, Misfit, WrongChild, Reserved, FarNode, pid_of_note, got_posts}
+use Rattle.protocol.specs.Cluster.{World, Goes}
+use Rattle.protocol.specs.Gossip.{NearPlaces}
+use Rattle.protocol.proofs.Places.{not_far}
+use Rattle.protocol.specs.Home.{after, fits_done, Given, NeverGiven}
+use Rattle.protocol.specs.Needs.{Needs, ServedSo, PokedSo, Quiet, Aims, Right, Named, alive, brings}
+use Rattle.protocol.proofs.Talk.{same_numbers, Of, AllOf, TakenOf, Loose, all_other, taken_other, talk_loose, pokes_of, pokes_loose, closed_of}
+use Rattle.protocol.proofs.Process.{cond_here, cond_off, cond_same, At, Letters, letters_of, took_way, way_tells, settle, rests}
+use Rattle.protocol.proofs.Own.{Turned, same_slot, loose_in, takes_in, silent, launch_own, step_own, send_own, heed_own, hold_own, serve_own, retry_own, pause_own, get_own, mark_own, ignore_own, miss_own, begin_own, keep_own, grant_own, refuse_own, depart_own, stay_here_own, land_own, stay_own}
 use Rattle.std.specs.Prelude.{ℤ}
 use Rattle.call_table.specs.declared.process.End.{End}
 

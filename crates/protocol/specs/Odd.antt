@@ -1,9 +1,9 @@
 -- Odd letters: a node skips them and counts them, and nothing else of it changes, not even its clock. In runs of bounded journals there are none.
 use Rattle.std.specs.Prelude.{◌≡◌, ℕ, ◌≤◌, ◌⊎◌, List, [], ◌∷◌, IfSome}
-use Rattle.run_tokens.specs.Ops.{Ops}
-use Rattle.run_tokens.specs.Notes.{Note, Move, Post, Turn, Local}
-use Rattle.run_tokens.specs.Does.{Unfit, next_stamp}
-use Rattle.run_tokens.specs.Cluster.{World, Reached}
+use Rattle.protocol.specs.Ops.{Ops}
+use Rattle.protocol.specs.Notes.{Note, Move, Post, Turn, Local}
+use Rattle.protocol.specs.Does.{Unfit, next_stamp}
+use Rattle.protocol.specs.Cluster.{World, Reached}
 
 -- stamps are below this, and so are the hops of a context that moves
 abbrev pub stamp_end : ℕ

@@ -1,15 +1,15 @@
 -- One lemma for each kind of event: what it needs of its process's spot, and where the process is after it.
 use Rattle.std.proofs.Common.{◌≡◌, ◌≢◌, ℕ, ◌+◌, ◌==◌, ◌⊎◌, inl, inr, Bool, true, false, cond, Option, Some, None, List, [], ◌∷◌, refl, sym, ap, ◌∙◌, subst}
-use Rattle.run_tokens.specs.Ops.{Ops}
-use Rattle.run_tokens.specs.Deeds.{Manner, KeptTold, Reason, ForLine, Chosen, line_for}
-use Rattle.run_tokens.specs.Notes.{Done, Call, Pause, Reply, Ask, Allow, Deny, Move, NoMove, Post, Turn, letter, Body, fresh, Kept, State, Running, Waiting, Asking, Context, context, Slot, Local, Way, way}
-use Rattle.run_tokens.specs.Spots.{Spot, Nowhere, Runs, Calls, Holds, Pauses, Answered, Asks, Granted, Denied, Travels, InReply, Ended, site, kept_at, goal, reserved, call_at, slot_by, way_by, mine}
-use Rattle.run_tokens.specs.Does.{Base, hosts, reserves, holds, lands, same, Launches, Stepped, Sends, Heeds, Holding, Serves, Retries, Pausing, Gets, Marks, Ignores, Begins, Keeps, Misses, Grants, Refuses, Departs, Stays, Lands, got_context, got_posts, Awake, Asleep}
-use Rattle.run_tokens.specs.Cluster.{World, Goes}
-use Rattle.run_tokens.specs.Home.{returned, after, done_of, last, first_none, pokes}
-use Rattle.run_tokens.specs.Needs.{got_spot, AwakeAt, FreeAt, AwayFrom, AsleepAt, mark, keep_in, Quiet, Launched, Ran, SentCall, Heeded, HeldCall, ServedCall, ServedPause, GotReply, Marked, Dropped, Begun, KeptMove, MissedIt, AllowedMove, DeniedMove, Departed, StayedHere, LandedHere}
-use Rattle.run_tokens.proofs.Talk.{same_numbers, Loose, pokes_loose, closed_loose, talk_loose, talk_own, talk_second, heard_own, heard_loose}
-use Rattle.run_tokens.proofs.Process.{cond_here, cond_off, cond_same, At, Letters, letters_of, took_way, way_tells, context_tells, call_tells, settle, settle_stay, rests}
+use Rattle.protocol.specs.Ops.{Ops}
+use Rattle.protocol.specs.Deeds.{Manner, KeptTold, Reason, ForLine, Chosen, line_for}
+use Rattle.protocol.specs.Notes.{Done, Call, Pause, Reply, Ask, Allow, Deny, Move, NoMove, Post, Turn, letter, Body, fresh, Kept, State, Running, Waiting, Asking, Context, context, Slot, Local, Way, way}
+use Rattle.protocol.specs.Spots.{Spot, Nowhere, Runs, Calls, Holds, Pauses, Answered, Asks, Granted, Denied, Travels, InReply, Ended, site, kept_at, goal, reserved, call_at, slot_by, way_by, mine}
+use Rattle.protocol.specs.Does.{Base, hosts, reserves, holds, lands, same, Launches, Stepped, Sends, Heeds, Holding, Serves, Retries, Pausing, Gets, Marks, Ignores, Begins, Keeps, Misses, Grants, Refuses, Departs, Stays, Lands, got_context, got_posts, Awake, Asleep}
+use Rattle.protocol.specs.Cluster.{World, Goes}
+use Rattle.protocol.specs.Home.{returned, after, done_of, last, first_none, pokes}
+use Rattle.protocol.specs.Needs.{got_spot, AwakeAt, FreeAt, AwayFrom, AsleepAt, mark, keep_in, Quiet, Launched, Ran, SentCall, Heeded, HeldCall, ServedCall, ServedPause, GotReply, Marked, Dropped, Begun, KeptMove, MissedIt, AllowedMove, DeniedMove, Departed, StayedHere, LandedHere}
+use Rattle.protocol.proofs.Talk.{same_numbers, Loose, pokes_loose, closed_loose, talk_loose, talk_own, talk_second, heard_own, heard_loose}
+use Rattle.protocol.proofs.Process.{cond_here, cond_off, cond_same, At, Letters, letters_of, took_way, way_tells, context_tells, call_tells, settle, settle_stay, rests}
 use Rattle.std.specs.Prelude.{ℤ}
 use Rattle.call_table.specs.declared.process.End.{End}
 

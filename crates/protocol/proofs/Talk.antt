@@ -1,11 +1,11 @@
 -- The letters on links of which a process has at most one.
 use Rattle.std.proofs.Common.{◌≡◌, ◌≢◌, ℕ, ◌==◌, ◌&&◌, Bool, true, false, cond, Option, Some, None, List, [], ◌∷◌, ◌++◌, refl, sym, ap, ◌∙◌, subst, arith}
 use Rattle.std.proofs.lemmas.Bool.Decides.{nat_tests}
-use Rattle.run_tokens.specs.Ops.{Ops}
-use Rattle.run_tokens.specs.Notes.{Note, Call, Pause, Reply, Poke, Half, Go, NotHere, Ask, Allow, Deny, Move, Landed, NoMove, Post, Way, way, Believed}
-use Rattle.run_tokens.specs.Spots.{mine}
-use Rattle.run_tokens.specs.Cluster.{for_link, at_front}
-use Rattle.run_tokens.specs.Home.{pokes, line_closed}
+use Rattle.protocol.specs.Ops.{Ops}
+use Rattle.protocol.specs.Notes.{Note, Call, Pause, Reply, Poke, Half, Go, NotHere, Ask, Allow, Deny, Move, Landed, NoMove, Post, Way, way, Believed}
+use Rattle.protocol.specs.Spots.{mine}
+use Rattle.protocol.specs.Cluster.{for_link, at_front}
+use Rattle.protocol.specs.Home.{pokes, line_closed}
 
 pub same_numbers : (a b : ℕ) → a ≡ b → (a == b) ≡ true
 same_numbers a b e = grind (arith, nat_tests)

@@ -1,14 +1,14 @@
 -- What an event does to who lives at home, and to what is under way for its process.
 use Rattle.std.proofs.Common.{◌≡◌, ◌≢◌, ◌<◌, ◌&&◌, ◌⊎◌, inl, inr, ℕ, Bool, true, false, not, cond, Option, Some, None, List, ◌+◌, refl, sym, ap, ◌∙◌, subst}
 use Rattle.std.specs.Prelude.{ℤ}
-use Rattle.run_tokens.specs.Ops.{Ops, Sound, Took, is_child, typed, counted, lives_in}
-use Rattle.run_tokens.specs.Deeds.{Manner, Did, Broke, Fell, Paused, Deed, Run, Kill, Bid, Unsent, Other, Steps, Sent, Heed, Held, Served, Got, Poked, Begin, Keep, Missed, Again, Allows, Denies, Depart, Stay, Land, Told, Refused, Closed, Gossips, Strange, pid_of, child_of, Input, Text, Finish, Nothing}
-use Rattle.run_tokens.specs.Notes.{Done, Body, Kept, Local}
-use Rattle.run_tokens.specs.Spots.{Spot, Nowhere, Runs, Calls, Holds, Pauses, Answered, Asks, Granted, Denied, Travels, InReply, Ended}
-use Rattle.run_tokens.specs.Home.{First, last, last_by, Acts, returned, after, forwards, fits_entered, fits_done, done_of}
-use Rattle.run_tokens.specs.Needs.{Needs, ServedSo, ServedCall, ServedPause, got_spot, asked, mark, keep_in, brings, born_spot, alive, Right}
-use Rattle.run_tokens.proofs.Quiet.{count_typed, counts}
-use Rattle.run_tokens.proofs.Talk.{same_numbers, other_numbers}
+use Rattle.protocol.specs.Ops.{Ops, Sound, Took, is_child, typed, counted, lives_in}
+use Rattle.protocol.specs.Deeds.{Manner, Did, Broke, Fell, Paused, Deed, Run, Kill, Bid, Unsent, Other, Steps, Sent, Heed, Held, Served, Got, Poked, Begin, Keep, Missed, Again, Allows, Denies, Depart, Stay, Land, Told, Refused, Closed, Gossips, Strange, pid_of, child_of, Input, Text, Finish, Nothing}
+use Rattle.protocol.specs.Notes.{Done, Body, Kept, Local}
+use Rattle.protocol.specs.Spots.{Spot, Nowhere, Runs, Calls, Holds, Pauses, Answered, Asks, Granted, Denied, Travels, InReply, Ended}
+use Rattle.protocol.specs.Home.{First, last, last_by, Acts, returned, after, forwards, fits_entered, fits_done, done_of}
+use Rattle.protocol.specs.Needs.{Needs, ServedSo, ServedCall, ServedPause, got_spot, asked, mark, keep_in, brings, born_spot, alive, Right}
+use Rattle.protocol.proofs.Quiet.{count_typed, counts}
+use Rattle.protocol.proofs.Talk.{same_numbers, other_numbers}
 use Rattle.call_table.specs.declared.process.End.{End}
 
 module _ (O : Ops) (S : Sound O) where

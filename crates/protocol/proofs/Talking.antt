@@ -2,11 +2,11 @@
 use Rattle.std.proofs.Common.{◌≡◌, ℕ, ◌<◌, ◌≤◌, inl, inr, Bool, true, false, Option, List, [], ◌∷◌, ◌++◌, sym, ap, subst}
 use Rattle.std.specs.Prelude.{ℤ}
 use Rattle.call_table.specs.declared.process.End.{End}
-use Rattle.run_tokens.specs.Ops.{Ops}
-use Rattle.run_tokens.specs.Gossip.{Entry, one_step, Choice, Talk, Silent, Stepping, Talking, talk_of}
-use Rattle.run_tokens.specs.Deeds.{Manner, Did, Broke, Fell, Paused, ForLine, Chosen, Deed, Run, Kill, Bid, Unsent, Other, Steps, Sent, Heed, Held, Served, Got, Poked, Begin, Keep, Missed, Again, Allows, Denies, Depart, Stay, Land, Told, Refused, Closed, Gossips, Strange}
-use Rattle.run_tokens.specs.Notes.{Note, Half, Post, Turn, Local}
-use Rattle.run_tokens.specs.Does.{Does, ServedBy, Talks, half_taken, half_posts}
+use Rattle.protocol.specs.Ops.{Ops}
+use Rattle.protocol.specs.Gossip.{Entry, one_step, Choice, Talk, Silent, Stepping, Talking, talk_of}
+use Rattle.protocol.specs.Deeds.{Manner, Did, Broke, Fell, Paused, ForLine, Chosen, Deed, Run, Kill, Bid, Unsent, Other, Steps, Sent, Heed, Held, Served, Got, Poked, Begin, Keep, Missed, Again, Allows, Denies, Depart, Stay, Land, Told, Refused, Closed, Gossips, Strange}
+use Rattle.protocol.specs.Notes.{Note, Half, Post, Turn, Local}
+use Rattle.protocol.specs.Does.{Does, ServedBy, Talks, half_taken, half_posts}
 
 module _ (O : Ops) where
   -- no half is among these letters

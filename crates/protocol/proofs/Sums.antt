@@ -1,7 +1,7 @@
 -- Sums over the first numbers.
 use Rattle.std.proofs.Common.{◌≡◌, ◌≤◌, ◌<◌, ℕ, zero, suc, ◌+◌, ◌==◌, Bool, true, false, refl, sym, ap, subst, arith}
-use Rattle.run_tokens.specs.Ops.{sum_below, one_if}
-use Rattle.run_tokens.proofs.Talk.{numbers_same, numbers_other}
+use Rattle.protocol.specs.Ops.{sum_below, one_if}
+use Rattle.protocol.proofs.Talk.{numbers_same, numbers_other}
 
 pub one_most : (b : Bool) → one_if b ≤ 1
 one_most true = omega arith

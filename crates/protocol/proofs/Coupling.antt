@@ -1,13 +1,13 @@
 -- A child that comes with an answer belongs to that answer alone.
 use Rattle.std.proofs.Common.{◌≡◌, ◌≢◌, ℕ, ◌==◌, Bool, true, false, cond, Option, Some, None, List, refl, sym, ap, ◌∙◌}
-use Rattle.run_tokens.specs.Ops.{Ops, is_child}
-use Rattle.run_tokens.specs.Deeds.{Manner, Did, Broke, Fell, Paused, KeptTold, Deed, Run, Kill, Bid, Unsent, Other, Steps, Sent, Heed, Held, Served, Got, Poked, Begin, Keep, Missed, Again, Allows, Denies, Depart, Stay, Land, Told, Refused, Closed, Gossips, Strange, pid_of, child_of}
-use Rattle.run_tokens.specs.Notes.{Done, Body, Kept, Local}
-use Rattle.run_tokens.specs.Spots.{Spot, Nowhere, Runs, Calls, Holds, Pauses, Answered, Asks, Granted, Denied, Travels, InReply, Ended}
-use Rattle.run_tokens.specs.Home.{returned, after}
-use Rattle.run_tokens.specs.Needs.{Needs, ServedSo, ServedCall, GotReply, got_spot, asked, mark, keep_in, Coupled, brings, user_at, born_spot, next_spot}
-use Rattle.run_tokens.proofs.Talk.{same_numbers, numbers_same, numbers_other}
-use Rattle.run_tokens.proofs.Process.{cond_off}
+use Rattle.protocol.specs.Ops.{Ops, is_child}
+use Rattle.protocol.specs.Deeds.{Manner, Did, Broke, Fell, Paused, KeptTold, Deed, Run, Kill, Bid, Unsent, Other, Steps, Sent, Heed, Held, Served, Got, Poked, Begin, Keep, Missed, Again, Allows, Denies, Depart, Stay, Land, Told, Refused, Closed, Gossips, Strange, pid_of, child_of}
+use Rattle.protocol.specs.Notes.{Done, Body, Kept, Local}
+use Rattle.protocol.specs.Spots.{Spot, Nowhere, Runs, Calls, Holds, Pauses, Answered, Asks, Granted, Denied, Travels, InReply, Ended}
+use Rattle.protocol.specs.Home.{returned, after}
+use Rattle.protocol.specs.Needs.{Needs, ServedSo, ServedCall, GotReply, got_spot, asked, mark, keep_in, Coupled, brings, user_at, born_spot, next_spot}
+use Rattle.protocol.proofs.Talk.{same_numbers, numbers_same, numbers_other}
+use Rattle.protocol.proofs.Process.{cond_off}
 use Rattle.std.specs.Prelude.{ℤ}
 use Rattle.call_table.specs.declared.process.End.{End}
 

@@ -1,13 +1,13 @@
 -- What one turn of a node may do.
 use Rattle.std.specs.Prelude.{◌≡◌, ◌≢◌, ℕ, nat_lt, max, ◌-◌, ◌%◌, ◌++◌, slice_get, ℤ, ◌+◌, ◌<◌, ◌≤◌, ◌==◌, ◌⊎◌, Bool, true, false, cond, Option, Some, None, List, ◌∷◌, []}
 use Rattle.call_table.specs.declared.process.End.{End}
-use Rattle.run_tokens.specs.Ops.{Ops, is_child, typed, has_text, sum_below, one_if}
+use Rattle.protocol.specs.Ops.{Ops, is_child, typed, has_text, sum_below, one_if}
 use Rattle.node_event.specs.declared.script.Order.{Order}
 use Rattle.node_event.specs.declared.script.Order.TheVariants as order
-use Rattle.run_tokens.specs.Gossip.{Entry, Gossip, FarPlaces, one_step, told_places, gossip_after, known_below, other_at, listed_below, Movable, Sight, Choice}
-use Rattle.run_tokens.specs.Deeds.{Input, Text, Finish, Nothing, Manner, Did, Broke, Fell, Paused, Why, Gone, Moving, There, KeptTold, Reason, ForLine, Chosen, line_for, Deed, Run, Kill, Bid, Unsent, Other, Steps, Sent, Heed, Held, Served, Got, Poked, Begin, Keep, Missed, Again, Allows, Denies, Depart, Stay, Land, Told, Refused, Closed, Gossips, Strange}
-use Rattle.run_tokens.specs.Notes.{SameProgress, served_one, Kept, State, Running, Waiting, Asking, Believed, is_some, Done, Note, Call, Pause, Reply, Poke, Half, Go, NotHere, Ask, Allow, Deny, Move, Landed, NoMove, Post, letter, Turn, Body, fresh, Context, context, Called, Slot, Local}
-use Rattle.run_tokens.specs.Home.{both, other_than, live_of, HasEnded, NeverGiven, UnsentFor, unheld, after, returned, First, last, Acts, done_of, to_poke, pokes, line_closed, Answers, born_at, first_none, fits_done}
+use Rattle.protocol.specs.Gossip.{Entry, Gossip, FarPlaces, one_step, told_places, gossip_after, known_below, other_at, listed_below, Movable, Sight, Choice}
+use Rattle.protocol.specs.Deeds.{Input, Text, Finish, Nothing, Manner, Did, Broke, Fell, Paused, Why, Gone, Moving, There, KeptTold, Reason, ForLine, Chosen, line_for, Deed, Run, Kill, Bid, Unsent, Other, Steps, Sent, Heed, Held, Served, Got, Poked, Begin, Keep, Missed, Again, Allows, Denies, Depart, Stay, Land, Told, Refused, Closed, Gossips, Strange}
+use Rattle.protocol.specs.Notes.{SameProgress, served_one, Kept, State, Running, Waiting, Asking, Believed, is_some, Done, Note, Call, Pause, Reply, Poke, Half, Go, NotHere, Ask, Allow, Deny, Move, Landed, NoMove, Post, letter, Turn, Body, fresh, Context, context, Called, Slot, Local}
+use Rattle.protocol.specs.Home.{both, other_than, live_of, HasEnded, NeverGiven, UnsentFor, unheld, after, returned, First, last, Acts, done_of, to_poke, pokes, line_closed, Answers, born_at, first_none, fits_done}
 
 module _ (O : Ops) where
   -- changes of a slot
