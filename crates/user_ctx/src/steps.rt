@@ -59,14 +59,15 @@ fn run_ready(pc: &mut u32, x: &mut [u32; 32], pages: &mut Pages, n: u32) -> (u32
             *pc = at;
             return (n, Outcome::Done);
         }
-        if !goes_on {
-            windows.learn(at, pages);
-            match windows.step(&mut at, x, pages) {
-                Outcome::Done => done += 1,
-                outcome => {
-                    *pc = at;
-                    return (done, outcome);
-                }
+        if goes_on {
+            continue;
+        }
+        windows.learn(at, pages);
+        match windows.step(&mut at, x, pages) {
+            Outcome::Done => done += 1,
+            outcome => {
+                *pc = at;
+                return (done, outcome);
             }
         }
     }

@@ -54,8 +54,8 @@ loop-at-preserved c =
       window = window_same _ _ _ _ _ _ c.loop-at.invariant.window c.requires.window.above c.requires.window.below c.in-Jumped.ensures.keeps;
     }
 
-pub overflow_sub-left-2 : goal.overflow_sub-left-2
-overflow_sub-left-2 c =
+pub overflow_sub-left-in-Jumped : goal.overflow_sub-left-in-Jumped
+overflow_sub-left-in-Jumped c =
     let inside : (c.loop-at.at - c.loop-at.start < c.loop-at.left) × (c.loop-at.at < 1024) = within _ _ c.loop-at.start c.loop-at.at c.loop-at.left _ c.loop-at.invariant.window c.loop-at.invariant.above c.loop-at.invariant.place c.loop-at.invariant.bound c.loop-at.invariant.stop (c.step_ready.ensures.idle (jumped_on _ c.in-Jumped.is)) in
     let some : c.loop-at.at - c.loop-at.start + 1 ≤ c.loop-at.left = omega (arith, inside.0) in
     some
@@ -124,3 +124,9 @@ returns-in-Left c = record {
   went = ran_same (c.args.n - c.loop-at.left + (c.loop-at.at - c.loop-at.start)) (core (c.args.window.now.base + 4 * c.args.place.now) c.args.x.now c.args.pages.now) _ _ c.loop-at.invariant.went c.in-Left.ensures.gone;
   keeps = same_on _ _ _ _ _ c.loop-at.invariant.same c.in-Left.ensures.keeps;
 }
+
+pub overflow_add-result-in-Wrote-2 : goal.overflow_add-result-in-Wrote-2
+overflow_add-result-in-Wrote-2 c =
+    let inside : (c.loop-at.at - c.loop-at.start < c.loop-at.left) × (c.loop-at.at < 1024) = within _ _ c.loop-at.start c.loop-at.at c.loop-at.left _ c.loop-at.invariant.window c.loop-at.invariant.above c.loop-at.invariant.place c.loop-at.invariant.bound c.loop-at.invariant.stop (c.step_ready.ensures.idle (wrote_on _ _ c.in-Wrote.is)) in
+    let some : c.loop-at.at - c.loop-at.start + 1 ≤ c.loop-at.left = omega (arith, inside.0) in
+    omega (arith, some, c.loop-at.invariant.most, c.ranges.n.fits)
