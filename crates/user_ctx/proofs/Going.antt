@@ -12,7 +12,7 @@ use Rattle.user_spec.specs.declared.effect.Effect.{Effect}
 use Rattle.user_spec.specs.declared.effect.Effect.TheVariants as effect
 use Rattle.user_spec.specs.Instruction.{Core, done, jump, applied, with_loaded, with_stored, load_as, store_as, next_effect, one_instruction}
 use Rattle.user_ctx.specs.declared.op.Op.{Op}
-use Rattle.user_ctx.specs.declared.op.Op.TheVariants.{Slow}
+use Rattle.user_ctx.specs.declared.op.Op.TheVariants.{Unknown}
 use Rattle.user_ctx.specs.declared.op.Work.{Work}
 use Rattle.user_ctx.specs.declared.op.Work.TheVariants as work
 use Rattle.user_ctx.specs.Stopping.{core}
@@ -38,10 +38,10 @@ leaves_not : (w : Work) → is_on w ≡ true → work.Leaves ≡ w → ⊥
 leaves_not w h e = let f : false ≡ true = ap (λ (v : Work). is_on v) e ∙ h in cc
 
 -- nothing is done at a place that is left to a plain step
-pub not_slow : (pages : PageMap) (base place : ℕ) (ops : List Op) (d : Op) (x : List ℕ) (w : Work) → IsWindow pages base ops → place ≤ 1024 → work_of (slice_index_or ops place d) x ≡ w → is_on w ≡ true → slice_get ops place ≢ Some Slow
+pub not_slow : (pages : PageMap) (base place : ℕ) (ops : List Op) (d : Op) (x : List ℕ) (w : Work) → IsWindow pages base ops → place ≤ 1024 → work_of (slice_index_or ops place d) x ≡ w → is_on w ≡ true → slice_get ops place ≢ Some Unknown
 not_slow pages base place ops d x w win le e h is =
     let long = win.long in
-    let slow : slice_index_or ops place d ≡ Slow = same_Some (slice_index_or ops place d) Slow (sym (got ops place d (omega arith)) ∙ is) in
+    let slow : slice_index_or ops place d ≡ Unknown = same_Some (slice_index_or ops place d) Unknown (sym (got ops place d (omega arith)) ∙ is) in
     leaves_not w h (sym (ap (λ (op : Op). work_of op x) slow) ∙ e)
 
 -- so it is done within the page
@@ -127,7 +127,7 @@ leaps_from pages base place rd target ops d x new next win le z e al n t =
 
 -- ---- a block does not pass its end
 
-pub within : (pages : PageMap) (base start at left : ℕ) (ops : List Op) → IsWindow pages base ops → start ≤ at → at ≤ 1024 → at - start ≤ left → (start + left < 1024 → slice_get ops (start + left) ≡ Some Slow) → slice_get ops at ≢ Some Slow → (at - start < left) × (at < 1024)
+pub within : (pages : PageMap) (base start at left : ℕ) (ops : List Op) → IsWindow pages base ops → start ≤ at → at ≤ 1024 → at - start ≤ left → (start + left < 1024 → slice_get ops (start + left) ≡ Some Unknown) → slice_get ops at ≢ Some Unknown → (at - start < left) × (at < 1024)
 within pages base start at left ops w above le bound stop idle =
     let lt : at < 1024 = elim (lt_or_le at 1024) as (λ _. at < 1024) [ inl l ↦ l | inr g ↦ let is : at ≡ 1024 = omega arith in absurd (idle (ap (slice_get ops) is ∙ w.last)) ] in (
       elim (lt_or_le (at - start) left) as (λ _. at - start < left) [

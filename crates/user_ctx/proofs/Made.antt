@@ -11,7 +11,7 @@ use Rattle.rv_decode.specs.declared.instruction.Instr.{Instr}
 use Rattle.user_spec.specs.declared.effect.Effect.TheVariants as effect
 use Rattle.user_spec.specs.Instruction.{fetched_effect, decoded_effect, effect_of, next_effect}
 use Rattle.user_ctx.specs.declared.op.Op.{Op}
-use Rattle.user_ctx.specs.declared.op.Op.TheVariants.{Unknown, Slow}
+use Rattle.user_ctx.specs.declared.op.Op.TheVariants.{Unknown}
 use Rattle.user_ctx.specs.declared.window.Window.{Window}
 use Rattle.user_ctx.specs.Ops.{IsOpOf, IsOp}
 use Rattle.user_ctx.specs.Windows.{word_of, SameWords, SameBut, Stored, IsClear, IsWindow, IsWindowBut, Forgets, IsWatched, IsWatchedBut, IsReady, IsReadyBut}
@@ -69,16 +69,19 @@ set_back (x ∷ xs) (suc i) v d = ap (λ ys. x ∷ ys) (set_back xs i v d)
 nothing_ready : (pages : PageMap) (at : ℕ) (op : Op) → op ≡ Unknown → IsOp pages at op
 nothing_ready pages at op e = rw e (record { each = λ x. tt })
 
-pub nothing : (pages : PageMap) (base : ℕ) → base % 4096 ≡ 0 → base + 4096 < 2 ^ 32 → IsWindow pages base (set (replicate {A = Op} 1025 Unknown) 1024 Slow)
-nothing pages base al lb =
-    let long : length (replicate {A = Op} 1025 Unknown) ≡ 1025 = length-replicate 1025 Unknown in
-    record {
-      aligned = al;
-      range = lb;
-      long = length-set (replicate {A = Op} 1025 Unknown) 1024 Slow ∙ long;
-      last = get_set_here (replicate {A = Op} 1025 Unknown) 1024 Slow (omega (arith, long));
-      each = λ i op lt is. nothing_ready pages (base + 4 * i) op (get_replicate 1025 i Unknown op (sym (get_set_other (replicate {A = Op} 1025 Unknown) 1024 i Slow (λ e. absurd (omega arith))) ∙ is));
-    }
+get_replicate_at : {A : Type 0} (n i : ℕ) (v : A) → i < n → slice_get (replicate {A = A} n v) i ≡ Some v
+get_replicate_at zero i v lt = absurd (omega arith)
+get_replicate_at (suc n) zero v lt = refl
+get_replicate_at (suc n) (suc i) v lt = get_replicate_at n i v (omega arith)
+
+pub nothing : (pages : PageMap) (base : ℕ) → base % 4096 ≡ 0 → base + 4096 < 2 ^ 32 → IsWindow pages base (replicate {A = Op} 1025 Unknown)
+nothing pages base al lb = record {
+  aligned = al;
+  range = lb;
+  long = length-replicate 1025 Unknown;
+  last = get_replicate_at 1025 1024 Unknown (omega arith);
+  each = λ i op lt is. nothing_ready pages (base + 4 * i) op (get_replicate 1025 i Unknown op is);
+}
 
 -- ---- a word learned
 
@@ -188,26 +191,27 @@ watched_but addr old new low end window w s =
 
 -- ---- a block that ends where it may
 
-pub with_stop : (pages : PageMap) (low end stop : ℕ) (window : Window) → IsWatched pages low end window → stop < 1024 → IsWatched pages low end (record window { ops = set window.ops stop Slow })
-with_stop pages low end stop window w lt = record {
+pub stop_there : (pages : PageMap) (low end stop : ℕ) (window : Window) → IsWatched pages low end window → stop ≤ 1024 → slice_get (set window.ops stop Unknown) stop ≡ Some Unknown
+stop_there pages low end stop window w le = get_set_here window.ops stop Unknown (let long = w.page.long in omega (arith, long))
+
+pub with_stop : (pages : PageMap) (low end stop : ℕ) (window : Window) → IsWatched pages low end window → stop ≤ 1024 → IsWatched pages low end (record window { ops = set window.ops stop Unknown })
+with_stop pages low end stop window w le = record {
   page = record {
     aligned = w.page.aligned;
     range = w.page.range;
-    long = length-set window.ops stop Slow ∙ w.page.long;
-    last = get_set_other window.ops stop 1024 Slow (λ e. absurd (omega arith)) ∙ w.page.last;
+    long = length-set window.ops stop Unknown ∙ w.page.long;
+    last = elim (eqb_tells 1024 stop) as (λ _. slice_get (set window.ops stop Unknown) 1024 ≡ Some Unknown) [
+      | inl s ↦ ap (slice_get (set window.ops stop Unknown)) s.1 ∙ stop_there pages low end stop window w le
+      | inr s ↦ get_set_other window.ops stop 1024 Unknown s.1 ∙ w.page.last
+    ];
     each = λ i op within is. elim (eqb_tells i stop) as (λ _. IsOp pages (window.base + 4 * i) op) [
-      | inl s ↦
-          let same : op ≡ Slow = get_set window.ops stop Slow op (sym (ap (slice_get (set window.ops stop Slow)) s.1) ∙ is) in
-          rw same (record { each = λ x. tt })
-      | inr s ↦ w.page.each i op within (sym (get_set_other window.ops stop i Slow s.1) ∙ is)
+      | inl s ↦ nothing_ready pages (window.base + 4 * i) op (get_set window.ops stop Unknown op (sym (ap (slice_get (set window.ops stop Unknown)) s.1) ∙ is))
+      | inr s ↦ w.page.each i op within (sym (get_set_other window.ops stop i Unknown s.1) ∙ is)
     ];
   };
   above = w.above;
   below = w.below;
 }
-
-pub stop_there : (pages : PageMap) (low end stop : ℕ) (window : Window) → IsWatched pages low end window → stop < 1024 → slice_get (set window.ops stop Slow) stop ≡ Some Slow
-stop_there pages low end stop window w lt = get_set_here window.ops stop Slow (let long = w.page.long in omega (arith, long))
 
 pub restored : (window : Window) (stop : ℕ) (v d : Op) → record window { ops = set (set window.ops stop v) stop (slice_index_or window.ops stop d) } ≡ window
 restored window stop v d = ap (λ l. let w : Window = record window { ops = l } in w) (set_back window.ops stop v d)

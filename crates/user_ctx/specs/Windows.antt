@@ -3,7 +3,7 @@ use Rattle.std.specs.Prelude.{ℕ, ◌+◌, ◌*◌, ◌/◌, ◌%◌, ◌^◌, 
 use Rattle.std.specs.List.{slice_get}
 use Rattle.page_set.specs.Pages.{PageMap, loaded}
 use Rattle.user_ctx.specs.declared.op.Op.{Op}
-use Rattle.user_ctx.specs.declared.op.Op.TheVariants.{Slow}
+use Rattle.user_ctx.specs.declared.op.Op.TheVariants.{Unknown}
 use Rattle.user_ctx.specs.declared.window.Window.{Window}
 use Rattle.user_ctx.specs.declared.windows.Windows.{Windows}
 use Rattle.user_ctx.specs.Ops.{IsOp}
@@ -39,7 +39,7 @@ pub record IsWindow (pages : PageMap) (base : ℕ) (ops : List Op) : Type 0 wher
   pub aligned : base % 4096 ≡ 0
   pub range : base + 4096 < 2 ^ 32
   pub long : length ops ≡ 1025
-  pub last : slice_get ops 1024 ≡ Some Slow
+  pub last : slice_get ops 1024 ≡ Some Unknown
   pub each : (i : ℕ) (op : Op) → i < 1024 → slice_get ops i ≡ Some op → IsOp pages (base + 4 * i) op
 
 -- so are those that four bytes from an address on do not touch
@@ -47,7 +47,7 @@ pub record IsWindowBut (addr : ℕ) (pages : PageMap) (base : ℕ) (ops : List O
   pub aligned : base % 4096 ≡ 0
   pub range : base + 4096 < 2 ^ 32
   pub long : length ops ≡ 1025
-  pub last : slice_get ops 1024 ≡ Some Slow
+  pub last : slice_get ops 1024 ≡ Some Unknown
   pub each : (i : ℕ) (op : Op) → i < 1024 → slice_get ops i ≡ Some op → base + 4 * i ≢ word_of addr → base + 4 * i ≢ word_of ((addr + 3) % 2 ^ 32) → IsOp pages (base + 4 * i) op
 
 -- operations of which one word is not ready

@@ -81,7 +81,7 @@ fn step_ready(
     ensures zero { x.new ≡ 0 ∷ drop 1 x.new }
     ensures place { place.new ≤ 1024 }
     ensures next { result ≡ Gone.Next → place.new ≡ place.old + 1 }
-    ensures idle { result ≢ Gone.Left → slice_get window.now.ops place.old ≢ Some Op.Slow }
+    ensures idle { result ≢ Gone.Left → slice_get window.now.ops place.old ≢ Some Op.Unknown }
     ensures gone { IsGone result (core (window.now.base + 4 * place.old) x.old pages.old) (core (pc_after result (window.now.base + 4 * place.new)) x.new pages.new) }
     ensures keeps { Keeps result low end pages.old pages.new }
 {
@@ -165,7 +165,7 @@ fn same_place(place: usize) -> usize
 
 /// Blocks of ready instructions until one was not ready or did not go, led out of the page or stored where words may be
 /// ready, or until fewer than a page's are left: how many were done, and how the last one came out.
-#[inline(never)]
+#[inline(always)]
 #[tactic(auto, using(crate::proofs::Going::within, crate::proofs::Made::window_same))]
 fn run_blocks(
     window: &Window,
@@ -180,7 +180,7 @@ fn run_blocks(
     requires place { place.old < 1024 }
     requires window { IsWatched pages.old low end window.now }
     requires end { end < 0xFFFFF001 }
-    requires stop { place.old + n < 1024 → slice_get window.now.ops (place.old + n) ≡ Some Op.Slow }
+    requires stop { place.old + n < 1024 → slice_get window.now.ops (place.old + n) ≡ Some Op.Unknown }
     ensures zero { x.new ≡ 0 ∷ drop 1 x.new }
     ensures place { place.new ≤ 1024 }
     ensures most { result.0 ≤ n }
@@ -220,6 +220,7 @@ fn run_blocks(
 }
 
 /// The same, where a block ends before more instructions were done than are asked for.
+#[inline(always)]
 #[tactic(auto, using(crate::proofs::Made::with_stop, crate::proofs::Made::stop_there, crate::proofs::Made::restored))]
 fn run_stopped(
     window: &mut Window,
@@ -242,19 +243,16 @@ fn run_stopped(
     ensures keeps { Keeps result.1 low end pages.old pages.new }
     ensures window { window.new ≡ window.old }
 {
-    let stop = *place + n as usize;
-    if stop >= 1024 {
-        let (went, gone) = run_blocks(window, low, end, place, x, pages, n);
-        return (went, gone);
-    }
+    let stop = (*place + n as usize).min(1024);
     let op = window.ops[stop];
-    window.ops[stop] = Op::Slow;
+    window.ops[stop] = Op::Unknown;
     let (went, gone) = run_blocks(window, low, end, place, x, pages, n);
     window.ops[stop] = op;
     (went, gone)
 }
 
 /// The address of the next instruction, from the place that was reached.
+#[inline(always)]
 fn next_pc(gone: Gone, at: u32) -> u32
     ensures { result ≡ pc_after gone at }
 {
@@ -268,6 +266,7 @@ fn next_pc(gone: Gone, at: u32) -> u32
 }
 
 /// Ready instructions of a page, of which so many are asked for: how many were done, and how the last one came out.
+#[inline(always)]
 pub fn run_page(
     window: &mut Window,
     low: u32,

@@ -24,9 +24,10 @@ impl Window {
         ensures is { IsWindow pages.now result.base result.ops }
         ensures base { result.base ≡ base }
     {
-        let mut ops = [Op::Unknown; 1025];
-        ops[1024] = Op::Slow;
-        Window { base, ops }
+        Window {
+            base,
+            ops: [Op::Unknown; 1025],
+        }
     }
 
     /// Makes the word at an address ready, where it lies in the page and is not known yet.

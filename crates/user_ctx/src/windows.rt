@@ -25,6 +25,7 @@ pub struct Windows {
 }
 
 /// Ready instructions of one page.
+#[inline(always)]
 #[tactic(auto, using(crate::proofs::Made::watched_at, crate::proofs::Made::set_same))]
 fn run_slot(
     slots: &mut [Window; 4],
@@ -53,6 +54,7 @@ fn run_slot(
 }
 
 /// Forgets the words that four bytes from an address on touch.
+#[inline(never)]
 #[tactic(auto, using(crate::proofs::Made::forgot_none, crate::proofs::Made::forgot_one, crate::proofs::Made::forgot_all, crate::proofs::Made::but_at))]
 fn forget_all(slots: &mut [Window; 4], addr: u32, low: u32, end: u32, pages: &Pages)
     requires { IsReadyBut addr pages.now low end slots.old }
@@ -74,14 +76,14 @@ fn learn_in(slots: &mut [Window; 4], slot: usize, at: u32, low: u32, end: u32, p
 
 impl Windows {
     /// Nothing is ready, where the first instruction stands at an address.
+    #[inline(always)]
     #[tactic(auto, using(crate::proofs::Made::ready_new))]
     pub fn new(at: u32, pages: &Pages) -> Self
         ensures { AreReady pages.now result }
     {
         let base = if at < LAST { at / 4096 * 4096 } else { 0 };
-        let window = Window::new(base, pages);
         Windows {
-            slots: [window; 4],
+            slots: [Window::new(base, pages); 4],
             low: base,
             end: base + 4096,
             next: 1,
@@ -100,6 +102,8 @@ impl Windows {
     }
 
     /// Takes in a page of which nothing is ready.
+    #[inline(never)]
+    #[cold]
     #[tactic(auto, using(crate::proofs::Made::ready_renewed))]
     fn renew(&mut self, base: u32, pages: &Pages) -> usize
         requires aligned { base % 4096 ≡ 0 }
@@ -131,6 +135,7 @@ impl Windows {
     }
 
     /// Makes the word at an address ready, where that can be.
+    #[inline(never)]
     pub fn learn(&mut self, at: u32, pages: &Pages)
         requires { AreReady pages.now self.old }
         ensures { AreReady pages.now self.new }

@@ -11,4 +11,4 @@ pub returns : goal.returns
 returns c =
     let lt : c.args.slot < length c.args.slots.now = omega (arith, c.told-slots, c.requires.slot) in
     ready_set _ _ _ c.args.slot c.args.slots.now _ _ c.requires.ready
-      (learned_at _ _ _ _ _ (watched_at c.args.pages.now c.args.low c.args.end c.args.slot c.args.slots.now c.index-slots-slot.result c.requires.ready lt) c.learn.ensures.is c.learn.ensures.base) refl
+    (learned_at _ _ _ _ _ (watched_at c.args.pages.now c.args.low c.args.end c.args.slot c.args.slots.now c.index-slots-slot.result c.requires.ready lt) c.learn.ensures.is c.learn.ensures.base) refl
