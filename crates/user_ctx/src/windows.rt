@@ -76,14 +76,14 @@ fn learn_in(slots: &mut [Window; 4], slot: usize, at: u32, low: u32, end: u32, p
 
 impl Windows {
     /// Nothing is ready, where the first instruction stands at an address.
-    #[inline(always)]
     #[tactic(auto, using(crate::proofs::Made::ready_new))]
     pub fn new(at: u32, pages: &Pages) -> Self
         ensures { AreReady pages.now result }
     {
         let base = if at < LAST { at / 4096 * 4096 } else { 0 };
+        let window = Window::new(base, pages);
         Windows {
-            slots: [Window::new(base, pages); 4],
+            slots: [window; 4],
             low: base,
             end: base + 4096,
             next: 1,
