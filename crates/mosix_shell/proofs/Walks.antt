@@ -1,12 +1,10 @@
 -- How far walks go.
-use Rattle.std.proofs.Common.{◌≡◌, ◌≢◌, ℕ, zero, suc, ◌+◌, ◌-◌, ◌<◌, ◌≤◌, refl, ap, ◌∙◌, sym, subst, arith, Option, Some, None, Bool, true, false, nat_le, cond, ◌&&◌, ◌||◌, ◌==◌, ◌^◌, not, slice_index}
+use Rattle.std.proofs.Common.{◌≡◌, ℕ, zero, suc, ◌+◌, ◌-◌, ◌<◌, ◌≤◌, refl, ap, ◌∙◌, sym, subst, arith, Some, Bool, true, false, nat_le, cond, ◌&&◌, ◌||◌}
 use Rattle.std.proofs.lemmas.Bool.Decides.{nat_tests}
-use Rattle.std.proofs.lemmas.Option.{none-some, same_Some}
 use Rattle.user_spec.specs.User.{UserState}
-use Rattle.user_spec.specs.Advance.{Went, Done, AtCall, Faults, advance, advanced, on_done, Walk, walked, walk_on, stays, one_more, quantum_of, grows, pauses, stops_at, user_after, is_at_ecall, core_of, counted, went_of, at_call}
+use Rattle.user_spec.specs.Advance.{Went, Done, AtCall, Faults, advance, advanced, on_done, Walk, walked, walk_on, stays, one_more, quantum_of, grows, pauses, stops_at, user_after, counted}
 use Rattle.user_ctx.proofs.Calls.{grows_done}
-use Rattle.user_spec.specs.Request.{number_of, args_of, break_maps, has_buffer, local_call}
-use Rattle.call_table.specs.Calls.{is_site_local}
+use Rattle.user_spec.specs.Request.{local_call}
 
 -- ---- the steps of a walk are steps
 

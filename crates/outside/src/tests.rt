@@ -4,6 +4,7 @@ use std::alloc::Global;
 use std::fs::{self, File};
 use std::io::{self, ErrorKind, Read, Write};
 use std::test::Fail;
+use std::time::{Duration, Instant};
 use std::{env, process};
 
 fn calls(alloc: Global, numbers: &[u64]) -> Result<Calls, NoMemory> {
@@ -237,5 +238,23 @@ fn real_files(rt: HostRuntime) -> Result<(), Fail> {
     assert_eq!(rt; full, Ok((16_777_216, true)));
     env::set_current_dir(&rt, "/")?;
     fs::remove_dir_all(&rt, folder.as_str())?;
+    Ok(())
+}
+
+/// A gate takes turns of nodes; one that shares it may be called from any thread.
+fn takes_turns<G: Gate + Sync>(gate: &G) {
+    for node in 0..8u8 {
+        gate.turn(node, false);
+        gate.turn(node, true);
+    }
+}
+
+#[test]
+fn gates(rt: HostRuntime) -> Result<(), Fail> {
+    takes_turns(&StillGate);
+    let start = Instant::now(&rt)?;
+    takes_turns(&YieldGate::new(rt.clone()?));
+    let slept = start.elapsed(&rt)?;
+    assert!(rt; slept >= Duration::from_micros(800));
     Ok(())
 }

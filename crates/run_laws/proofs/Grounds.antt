@@ -26,7 +26,8 @@ use Rattle.run_laws.proofs.Played.{Agrees}
 use Rattle.run_tokens.proofs.Process.{StateTells, context_tells}
 use Rattle.run_tokens.proofs.Stand.{Stands, Step, Path}
 use Rattle.run_laws.proofs.Facts.{facts_of, kept_to, path_tells}
-use Rattle.run_laws.proofs.Replay.{user_of, Right, alive}
+use Rattle.run_laws.proofs.Replay.{user_of}
+use Rattle.run_tokens.specs.Needs.{alive, Right}
 use Rattle.run_laws.proofs.Played.{path_played}
 use Rattle.run_laws.proofs.Moves.{Balanced, asks_of, path_balanced}
 use Rattle.run_laws.proofs.Hops.{over, AtPlace, Ok}
@@ -53,7 +54,7 @@ module _ (O : Ops) (S : Sound O) where
   place_one sp (InReply q u) i j e f = sym e ∙ f
   place_one sp (Ended u) i j e f = absurd e
 
-  over_dead : (s : Spot O) → over O S s ≡ true → alive O S s ≡ false
+  over_dead : (s : Spot O) → over O S s ≡ true → alive O s ≡ false
   over_dead Nowhere e = absurd cc
   over_dead (Runs m b) e = absurd cc
   over_dead (Calls m b k r) e = absurd cc
@@ -67,17 +68,17 @@ module _ (O : Ops) (S : Sound O) where
   over_dead (InReply q u) e = absurd cc
   over_dead (Ended u) e = refl
 
-  waiting_kept : (k : Option Kept) (b : Body O) (n : ℕ) (s : Spot O) → StateTells O (Waiting k) b n s → (facts_of O S s).kept ≡ kept_to k
-  waiting_kept k b n s (inl (x, e)) = ap (λ (z : Spot O). (facts_of O S z).kept) e
-  waiting_kept k b n s (inr (inl (x, e))) = ap (λ (z : Spot O). (facts_of O S z).kept) e
-  waiting_kept k b n s (inr (inr (inl (x, e)))) = ap (λ (z : Spot O). (facts_of O S z).kept) e
-  waiting_kept k b n s (inr (inr (inr (d, x, y, e)))) = ap (λ (z : Spot O). (facts_of O S z).kept) e
+  waiting_kept : (x : Bool) (k : Option Kept) (b : Body O) (n : ℕ) (s : Spot O) → StateTells O (Waiting x k) b n s → (facts_of O S s).kept ≡ kept_to k
+  waiting_kept x k b n s (inl (q, e, z)) = ap (λ (z : Spot O). (facts_of O S z).kept) e
+  waiting_kept x k b n s (inr (inl (q, e, z))) = ap (λ (z : Spot O). (facts_of O S z).kept) e
+  waiting_kept x k b n s (inr (inr (inl (q, e, z)))) = ap (λ (z : Spot O). (facts_of O S z).kept) e
+  waiting_kept x k b n s (inr (inr (inr (d, y, e)))) = ap (λ (z : Spot O). (facts_of O S z).kept) e
 
-  waiting_place : (k : Option Kept) (b : Body O) (n : ℕ) (s : Spot O) → StateTells O (Waiting k) b n s → (facts_of O S s).places ≡ Node n ∷ []
-  waiting_place k b n s (inl (x, e)) = ap (λ (z : Spot O). (facts_of O S z).places) e
-  waiting_place k b n s (inr (inl (x, e))) = ap (λ (z : Spot O). (facts_of O S z).places) e
-  waiting_place k b n s (inr (inr (inl (x, e)))) = ap (λ (z : Spot O). (facts_of O S z).places) e
-  waiting_place k b n s (inr (inr (inr (d, x, y, e)))) = ap (λ (z : Spot O). (facts_of O S z).places) e
+  waiting_place : (x : Bool) (k : Option Kept) (b : Body O) (n : ℕ) (s : Spot O) → StateTells O (Waiting x k) b n s → (facts_of O S s).places ≡ Node n ∷ []
+  waiting_place x k b n s (inl (q, e, z)) = ap (λ (z : Spot O). (facts_of O S z).places) e
+  waiting_place x k b n s (inr (inl (q, e, z))) = ap (λ (z : Spot O). (facts_of O S z).places) e
+  waiting_place x k b n s (inr (inr (inl (q, e, z)))) = ap (λ (z : Spot O). (facts_of O S z).places) e
+  waiting_place x k b n s (inr (inr (inr (d, y, e)))) = ap (λ (z : Spot O). (facts_of O S z).places) e
 
   asking_one : (to : ℕ) (l : Option ℕ) (b : Body O) (n : ℕ) (s : Spot O) → StateTells O (Asking to l) b n s → (asks_of O S s ≡ 1) × (over O S s ≡ false) × (s ≡ Nowhere → ⊥)
   asking_one to l b n s (inl (x, e)) = (ap (asks_of O S) e, ap (over O S) e, λ z. (let y = sym e ∙ z in cc))
@@ -92,12 +93,12 @@ module _ (O : Ops) (S : Sound O) where
     bal q = path_balanced O S h sp w path q
 
     refused : (p to line : ℕ) → t.event.what ≡ Refused p to Moving line → Does O (Refused p to Moving line) t.event.node (w.nodes t.event.node) t (v.nodes t.event.node) → UnderWay p es
-    refused p to line is (inl d) = go d.was.4
+    refused p to line is (inl d) = go d.was
       where
-        go : (((w.nodes t.event.node).slots p).context ≡ Some (context O d.was.0 (Asking d.was.1 d.was.2))) ⊎ (((w.nodes t.event.node).slots p).context ≡ Some (context O d.was.0 (Waiting (Some d.was.3)))) → UnderWay p es
-        go (inr e) = inl (d.was.3.to, ap (λ (k : Facts). k.kept) (path_tells O S h sp w path p) ∙ waiting_kept (Some d.was.3) d.was.0 t.event.node (sp p) (context_tells O p (sp p) w (stands.at p) t.event.node d.was.0 (Waiting (Some d.was.3)) e))
-        go (inl e) =
-            let a = asking_one d.was.1 d.was.2 d.was.0 t.event.node (sp p) (context_tells O p (sp p) w (stands.at p) t.event.node d.was.0 (Asking d.was.1 d.was.2) e) in
+        go : ((b : Body O) × (to2 : ℕ) × (line2 : Option ℕ) × (((w.nodes t.event.node).slots p).context ≡ Some (context O b (Asking to2 line2)))) ⊎ ((b : Body O) × (x : Bool) × (k : Kept) × (((w.nodes t.event.node).slots p).context ≡ Some (context O b (Waiting x (Some k))))) → UnderWay p es
+        go (inr (b, x, k, e)) = inl (k.to, ap (λ (z : Facts). z.kept) (path_tells O S h sp w path p) ∙ waiting_kept x (Some k) b t.event.node (sp p) (context_tells O p (sp p) w (stands.at p) t.event.node b (Waiting x (Some k)) e))
+        go (inl (b, to2, line2, e)) =
+            let a = asking_one to2 line2 b t.event.node (sp p) (context_tells O p (sp p) w (stands.at p) t.event.node b (Asking to2 line2) e) in
             inr (by a.0 (belief a.1 ((path_trails O S h sp w path).belief p a.2)))
           where
             belief : over O S (sp p) ≡ false → Ok O S sp (sp p) (moves p es) ((w.nodes 0).believed p).place ((w.nodes 0).believed p).hops → ((w.nodes 0).believed p).hops ≤ (moves p es).departs
@@ -157,22 +158,22 @@ module _ (O : Ops) (S : Sound O) where
       ended_at p some dead = record { given = given p some; dead = dead }
 
       got_ended : (ended : Bool) (p : ℕ) (child : Option ℕ) (kept : Option KeptTold) → GotReply O n p child ended kept (sp p) st.own → EndedWhere O ended p m
-      got_ended true p child kept d = ended_at p (λ z. (let y = sym d.was ∙ z in cc)) (agrees.alive p ∙ (ap (alive O S) d.was ∙ ap not (sym d.ended_is)))
-      got_ended false p child kept d = agrees.alive p ∙ (ap (alive O S) d.was ∙ ap not (sym d.ended_is))
+      got_ended true p child kept d = ended_at p (λ z. (let y = sym d.was ∙ z in cc)) (agrees.alive p ∙ (ap (alive O) d.was ∙ ap not (sym d.ended_is)))
+      got_ended false p child kept d = agrees.alive p ∙ (ap (alive O) d.was ∙ ap not (sym d.ended_is))
 
-      needed : (p need : ℕ) (s : Spot O) → sp p ≡ s → (b : Body O) → user_of O S s ≡ Some b.user → (Right O S s → need ≡ O.pages b.user) → need ≡ pages_of O (m.users p)
-      needed p need s e b f g = g (subst (Right O S) e (agrees.right p)) ∙ sym (ap (pages_of O) (agrees.users p ∙ (ap (user_of O S) e ∙ f)))
+      needed : (p need : ℕ) (s : Spot O) → sp p ≡ s → (b : Body O) → user_of O S s ≡ Some b.user → (Right O s → need ≡ O.pages b.user) → need ≡ pages_of O (m.users p)
+      needed p need s e b f g = g (subst (Right O) e (agrees.right p)) ∙ sym (ap (pages_of O) (agrees.users p ∙ (ap (user_of O S) e ∙ f)))
 
       unused : (used : ℕ) → InUse O (w.nodes n) used → used ≡ used_pages O n es m
       unused used d = path_used O S h sp w path stands m agrees n used d
 
       -- a Go that comes to its target, where its process is
       there : (p to line : ℕ) → Does O (Refused p to There line) n (w.nodes n) t (v.nodes n) → (n ≡ to) × ((facts p es).places ≡ Node n ∷ [])
-      there p to line (inl d) = (sym d.was.2, ap (λ (k : Facts). k.places) (path_tells O S h sp w path p) ∙ go d.was.1)
+      there p to line (inl d) = (sym d.was.1, ap (λ (k : Facts). k.places) (path_tells O S h sp w path p) ∙ go d.was.0)
         where
-          go : (((w.nodes n).slots p).context ≡ Some (context O d.was.0 Running)) ⊎ (((w.nodes n).slots p).context ≡ Some (context O d.was.0 (Waiting None))) → (facts_of O S (sp p)).places ≡ Node n ∷ []
-          go (inl e) = ap (λ (k : Spot O). (facts_of O S k).places) (context_tells O p (sp p) w (stands.at p) n d.was.0 Running e)
-          go (inr e) = waiting_place None d.was.0 n (sp p) (context_tells O p (sp p) w (stands.at p) n d.was.0 (Waiting None) e)
+          go : ((b : Body O) × (((w.nodes n).slots p).context ≡ Some (context O b Running))) ⊎ ((b : Body O) × (x : Bool) × (((w.nodes n).slots p).context ≡ Some (context O b (Waiting x None)))) → (facts_of O S (sp p)).places ≡ Node n ∷ []
+          go (inl (b, e)) = ap (λ (k : Spot O). (facts_of O S k).places) (context_tells O p (sp p) w (stands.at p) n b Running e)
+          go (inr (b, x, e)) = waiting_place x None b n (sp p) (context_tells O p (sp p) w (stands.at p) n b (Waiting x None) e)
       there p to line (inr d) = absurd d.was
 
       nowhere_not : (p i : ℕ) → sp p ≡ Nowhere → Ok O S sp (sp p) (moves p es) 0 i → ⊥

@@ -7,6 +7,8 @@ pub mod Errands
 pub mod Facts
 pub mod Held
 pub mod Script
+pub mod Poking
+pub mod Silent
 pub mod Lawful
 pub mod Family
 pub mod Lines
@@ -20,6 +22,7 @@ pub mod Asking
 pub mod Landings
 pub mod Grounds
 pub mod Whole
+pub mod Odd
 pub mod News
 pub mod BestTold
 pub mod Again
@@ -31,3 +34,18 @@ pub mod Stamps
 pub mod Merge
 pub mod Weave
 pub mod Did
+pub mod Sleeps
+pub mod Resting
+pub mod OpenLines
+pub mod Quietness
+pub mod Owning
+pub mod Statuses
+pub mod Ending
+pub mod Making
+pub mod EndStories
+pub mod EndRuns
+pub mod Awaiting
+pub mod Going
+pub mod SmallAble
+pub mod Near
+pub mod Taking

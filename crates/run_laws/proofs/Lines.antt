@@ -2,7 +2,7 @@
 use Rattle.std.proofs.Common.{◌≡◌, ◌≢◌, ℕ, ◌+◌, ◌<◌, ◌≤◌, ◌==◌, ◌⊎◌, inl, inr, Bool, true, false, cond, Option, Some, None, List, [], ◌∷◌, refl, sym, ap, ◌∙◌, subst, arith}
 use Rattle.run_tokens.specs.Ops.{Ops, Sound, is_child}
 use Rattle.run_tokens.specs.Deeds.{Manner, Did, Broke, Fell, Paused, Why, KeptTold, Deed, Run, Kill, Bid, Unsent, Other, Steps, Sent, Heed, Held, Served, Got, Poked, Begin, Keep, Missed, Again, Allows, Denies, Depart, Stay, Land, Told, Refused, Closed, Strange, pid_of, child_of}
-use Rattle.run_tokens.specs.Notes.{Note, Call, Pause, Reply, Poke, Go, NotHere, Ask, Allow, Deny, Move, Landed, NoMove, Post, Turn, letter, Body, Kept, Local, Believed, Waiting, Asking, Way, way, Progress}
+use Rattle.run_tokens.specs.Notes.{Note, Call, Pause, Reply, Poke, Half, Go, NotHere, Ask, Allow, Deny, Move, Landed, NoMove, Post, Turn, letter, Body, Kept, Local, Believed, Waiting, Asking, Way, way, Progress}
 use Rattle.run_tokens.specs.Spots.{Spot, Travels}
 use Rattle.run_tokens.specs.Cluster.{World, Goes}
 use Rattle.run_tokens.specs.Does.{Does, ServedBy, got_posts, kept_told}
@@ -38,6 +38,7 @@ module _ (O : Ops) (S : Sound O) where
   NoLine (Pause p r) = Unit {0}
   NoLine (Reply p d) = Unit {0}
   NoLine (Poke p) = Unit {0}
+  NoLine (Half places) = Unit {0}
   NoLine (Go p to hops line) = ⊥
   NoLine (NotHere p to hops line) = ⊥
   NoLine (Ask p need) = Unit {0}
@@ -52,6 +53,7 @@ module _ (O : Ops) (S : Sound O) where
   OnlyLine l (Pause p r) = Unit {0}
   OnlyLine l (Reply p d) = Unit {0}
   OnlyLine l (Poke p) = Unit {0}
+  OnlyLine l (Half places) = Unit {0}
   OnlyLine l (Go p to hops line) = line ≡ l
   OnlyLine l (NotHere p to hops line) = line ≡ l
   OnlyLine l (Ask p need) = Unit {0}
@@ -66,6 +68,7 @@ module _ (O : Ops) (S : Sound O) where
   no_line l (Pause p r) h = refl
   no_line l (Reply p d) h = refl
   no_line l (Poke p) h = refl
+  no_line l (Half places) h = refl
   no_line l (Go p to hops line) h = absurd h
   no_line l (NotHere p to hops line) h = absurd h
   no_line l (Ask p need) h = refl
@@ -80,6 +83,7 @@ module _ (O : Ops) (S : Sound O) where
   only_other l k (Pause p r) h ne = refl
   only_other l k (Reply p d) h ne = refl
   only_other l k (Poke p) h ne = refl
+  only_other l k (Half places) h ne = refl
   only_other l k (Go p to hops line) h ne = other_numbers line k (λ z. ne (sym z ∙ h))
   only_other l k (NotHere p to hops line) h ne = other_numbers line k (λ z. ne (sym z ∙ h))
   only_other l k (Ask p need) h ne = refl
@@ -131,6 +135,7 @@ module _ (O : Ops) (S : Sound O) where
   ErrandTells (Pause p r) a b e = ⊥
   ErrandTells (Reply p d) a b e = ⊥
   ErrandTells (Poke p) a b e = ⊥
+  ErrandTells (Half places) a b e = ⊥
   ErrandTells (Go p to h line) a b e = (e ≡ Going b p to h) × (a ≡ 0)
   ErrandTells (NotHere p to h line) a b e = e ≡ Back a p to h
   ErrandTells (Ask p need) a b e = ⊥
@@ -156,11 +161,11 @@ module _ (O : Ops) (S : Sound O) where
   errand_tells l Over w h = absurd cc
 
   -- the line of a context that waits or asks
-  waiting_line : (k : Option Kept) (b : Body O) (n : ℕ) (s : Spot O) → StateTells O (Waiting k) b n s → (facts_of O S s).line ≡ kept_line k
-  waiting_line k b n s (inl (x, e)) = ap (λ (z : Spot O). (facts_of O S z).line) e
-  waiting_line k b n s (inr (inl (x, e))) = ap (λ (z : Spot O). (facts_of O S z).line) e
-  waiting_line k b n s (inr (inr (inl (x, e)))) = ap (λ (z : Spot O). (facts_of O S z).line) e
-  waiting_line k b n s (inr (inr (inr (d, x, y, e)))) = ap (λ (z : Spot O). (facts_of O S z).line) e
+  waiting_line : (x : Bool) (k : Option Kept) (b : Body O) (n : ℕ) (s : Spot O) → StateTells O (Waiting x k) b n s → (facts_of O S s).line ≡ kept_line k
+  waiting_line x k b n s (inl (q, e, z)) = ap (λ (z : Spot O). (facts_of O S z).line) e
+  waiting_line x k b n s (inr (inl (q, e, z))) = ap (λ (z : Spot O). (facts_of O S z).line) e
+  waiting_line x k b n s (inr (inr (inl (q, e, z)))) = ap (λ (z : Spot O). (facts_of O S z).line) e
+  waiting_line x k b n s (inr (inr (inr (d, y, e)))) = ap (λ (z : Spot O). (facts_of O S z).line) e
 
   asking_line : (to : ℕ) (l : Option ℕ) (b : Body O) (n : ℕ) (s : Spot O) → StateTells O (Asking to l) b n s → (facts_of O S s).line ≡ l
   asking_line to l b n s (inl (x, e)) = ap (λ (z : Spot O). (facts_of O S z).line) e
@@ -191,8 +196,7 @@ module _ (O : Ops) (S : Sound O) where
     served_line Did p number value child signal ends more poked (inr d) = lines_same d.progress
     served_line Broke p number value child signal ends more poked (inl d) = lines_same d.progress
     served_line Broke p number value child signal ends more poked (inr d) = lines_same d.progress
-    served_line Fell p number value child signal ends more poked (inl d) = lines_same d.progress
-    served_line Fell p number value child signal ends more poked (inr d) = lines_same d.progress
+    served_line Fell p number value child signal ends more poked d = lines_same d.progress
     served_line Paused p number value child signal ends more poked d = lines_same d.progress
 
     line_grows : (what : Deed) → Does O what n old t new → old.progress.line ≤ new.progress.line
@@ -492,7 +496,7 @@ module _ (O : Ops) (S : Sound O) where
     cond_none false o e = e
 
     got_line : (p : ℕ) (child : Option ℕ) (ended : Bool) (kept : Option KeptTold) (f : Facts) (r : Spot O) → f.line ≡ (facts_of O S (sp p)).line → (d : Does O (Got p child ended kept) n old t new) → Needs O (Got p child ended kept) n old new (sp p) r → Result (Got p child ended kept) f r
-    got_line p child ended kept f r fl d need = go d.keeps (waiting_line d.keeps d.body n (sp p) (context_tells O p (sp p) w (st.at p) n d.body (Waiting d.keeps) d.was)) d.kept_is d.base.posts
+    got_line p child ended kept f r fl d need = go d.keeps (waiting_line d.pause d.keeps d.body n (sp p) (context_tells O p (sp p) w (st.at p) n d.body (Waiting d.pause d.keeps) d.was)) d.kept_is d.base.posts
       where
         at : (k : Kept) (e : Bool) → (facts_of O S (sp p)).line ≡ Some k.line → ended ≡ e → kept ≡ Some (record { ends = e; to = k.to }) → t.posted ≡ cond e (letter O n 0 t.event.stamp (NoMove k.line) ∷ []) (letter O n k.to t.event.stamp (Ask p (O.pages (after O d.body.user d.done))) ∷ []) → Result (Got p child ended kept) f r
         at k true x y z g =
@@ -523,8 +527,7 @@ module _ (O : Ops) (S : Sound O) where
     served_lines Did p number value child signal ends more poked f r (inr d) need = plain (Served p Did number value child signal ends more poked) f r _ _ (inr d) need d.base.took d.base.posts tt (tt, pokes_none t.event.stamp old.believed poked) refl refl
     served_lines Broke p number value child signal ends more poked f r (inl d) need = plain (Served p Broke number value child signal ends more poked) f r _ _ (inl d) need d.base.took d.base.posts tt (tt, pokes_none t.event.stamp old.believed poked) refl refl
     served_lines Broke p number value child signal ends more poked f r (inr d) need = plain (Served p Broke number value child signal ends more poked) f r _ _ (inr d) need d.base.took d.base.posts tt (tt, pokes_none t.event.stamp old.believed poked) refl refl
-    served_lines Fell p number value child signal ends more poked f r (inl d) need = plain (Served p Fell number value child signal ends more poked) f r _ _ (inl d) need d.base.took d.base.posts tt (tt, pokes_none t.event.stamp old.believed poked) refl refl
-    served_lines Fell p number value child signal ends more poked f r (inr d) need = plain (Served p Fell number value child signal ends more poked) f r _ _ (inr d) need d.base.took d.base.posts tt (tt, pokes_none t.event.stamp old.believed poked) refl refl
+    served_lines Fell p number value child signal ends more poked f r d need = plain (Served p Fell number value child signal ends more poked) f r _ _ d need d.base.took d.base.posts tt (tt, pokes_none t.event.stamp old.believed poked) refl refl
     served_lines Paused p number value child signal ends more poked f r d need = plain (Served p Paused number value child signal ends more poked) f r _ _ d need d.base.took d.base.posts tt (tt, pokes_none t.event.stamp old.believed poked) refl refl
 
     pub lines_at : (what : Deed) (f : Facts) (r : Spot O) → f.line ≡ (facts_of O S (sp (pid_of what))).line → (d : Does O what n old t new) → Needs O what n old new (sp (pid_of what)) r → Result what f r

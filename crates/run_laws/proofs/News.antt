@@ -2,7 +2,7 @@
 use Rattle.std.proofs.Common.{◌≡◌, ◌≢◌, ℕ, ◌<◌, ◌≤◌, ◌==◌, ◌&&◌, ◌⊎◌, inl, inr, Bool, true, false, cond, Option, Some, None, List, [], ◌∷◌, ◌++◌, refl, sym, ap, ◌∙◌, subst}
 use Rattle.run_tokens.specs.Ops.{Ops, Sound}
 use Rattle.run_tokens.specs.Deeds.{Manner, Did, Broke, Fell, Paused, Deed, Run, Kill, Bid, Unsent, Other, Steps, Sent, Heed, Held, Served, Got, Poked, Begin, Keep, Missed, Again, Allows, Denies, Depart, Stay, Land, Told, Refused, Closed, Strange, Noted, pid_of}
-use Rattle.run_tokens.specs.Notes.{Done, Note, Call, Pause, Reply, Poke, Go, NotHere, Ask, Allow, Deny, Move, Landed, NoMove, Post, Turn, letter, Body, Kept, Local, Believed}
+use Rattle.run_tokens.specs.Notes.{Done, Note, Call, Pause, Reply, Poke, Half, Go, NotHere, Ask, Allow, Deny, Move, Landed, NoMove, Post, Turn, letter, Body, Kept, Local, Believed}
 use Rattle.run_tokens.specs.Spots.{Spot, site}
 use Rattle.run_tokens.specs.Cluster.{World, for_link, at_front, Goes}
 use Rattle.run_tokens.specs.Does.{Does, ServedBy, got_posts, place_told}
@@ -36,6 +36,7 @@ module _ (O : Ops) (S : Sound O) where
   NoteAsked es (Pause q r) = Unit {0}
   NoteAsked es (Reply q d) = Unit {0}
   NoteAsked es (Poke q) = Unit {0}
+  NoteAsked es (Half places) = Unit {0}
   NoteAsked es (Go q to i line) = Asked line es i
   NoteAsked es (NotHere q to i line) = Asked line es i
   NoteAsked es (Ask q need) = Unit {0}
@@ -74,6 +75,7 @@ module _ (O : Ops) (S : Sound O) where
   note_on es es2 ok f (Pause q r) h k = tt
   note_on es es2 ok f (Reply q d) h k = tt
   note_on es es2 ok f (Poke q) h k = tt
+  note_on es es2 ok f (Half places) h k = tt
   note_on es es2 ok f (Go q to i line) h k = f line i (h line (same_numbers line line refl)) k
   note_on es es2 ok f (NotHere q to i line) h k = f line i (h line (same_numbers line line refl)) k
   note_on es es2 ok f (Ask q need) h k = tt
@@ -213,8 +215,7 @@ module _ (O : Ops) (S : Sound O) where
     served_asked Did x number value child signal ends more poked is (inr d) = quiet (Served x Did number value child signal ends more poked) is (λ l i k. k) _ d.base.posts (tt, pokes_asked t.event.stamp old.believed poked)
     served_asked Broke x number value child signal ends more poked is (inl d) = quiet (Served x Broke number value child signal ends more poked) is (λ l i k. k) _ d.base.posts (tt, pokes_asked t.event.stamp old.believed poked)
     served_asked Broke x number value child signal ends more poked is (inr d) = quiet (Served x Broke number value child signal ends more poked) is (λ l i k. k) _ d.base.posts (tt, pokes_asked t.event.stamp old.believed poked)
-    served_asked Fell x number value child signal ends more poked is (inl d) = quiet (Served x Fell number value child signal ends more poked) is (λ l i k. k) _ d.base.posts (tt, pokes_asked t.event.stamp old.believed poked)
-    served_asked Fell x number value child signal ends more poked is (inr d) = quiet (Served x Fell number value child signal ends more poked) is (λ l i k. k) _ d.base.posts (tt, pokes_asked t.event.stamp old.believed poked)
+    served_asked Fell x number value child signal ends more poked is d = quiet (Served x Fell number value child signal ends more poked) is (λ l i k. k) _ d.base.posts (tt, pokes_asked t.event.stamp old.believed poked)
     served_asked Paused x number value child signal ends more poked is d = quiet (Served x Paused number value child signal ends more poked) is (λ l i k. k) _ d.base.posts (tt, pokes_asked t.event.stamp old.believed poked)
 
     asked_next : (what : Deed) → t.event.what ≡ what → Does O what n old t new → All_asked
@@ -320,8 +321,7 @@ module _ (O : Ops) (S : Sound O) where
     served_same Did x number value signal ends more poked (inr d) q = d.believed q
     served_same Broke x number value signal ends more poked (inl d) q = d.believed q
     served_same Broke x number value signal ends more poked (inr d) q = d.believed q
-    served_same Fell x number value signal ends more poked (inl d) q = d.believed q
-    served_same Fell x number value signal ends more poked (inr d) q = d.believed q
+    served_same Fell x number value signal ends more poked d q = d.believed q
     served_same Paused x number value signal ends more poked d q = d.believed q
 
     asked_node : (g : Bool) (m : ℕ) (b : Body O) (k : Option Kept) (r : O.Request) → (facts_of O S (asked O g m b k r)).places ≡ Node m ∷ []

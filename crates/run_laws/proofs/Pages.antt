@@ -8,7 +8,8 @@ use Rattle.run_tokens.specs.Deeds.{Manner, Did, Broke, Fell, Paused, Deed, Run, 
 use Rattle.run_tokens.specs.Notes.{Done, Turn, Body, Kept, Context, Local}
 use Rattle.run_tokens.specs.Spots.{Spot, Nowhere, Runs, Calls, Holds, Pauses, Answered, Asks, Granted, Denied, Travels, InReply, Ended, site, kept_at, goal, reserved, slot_by}
 use Rattle.run_tokens.specs.Home.{give, enter, returned, after}
-use Rattle.run_tokens.specs.Does.{sum_below, context_pages, reserve_pages, slot_pages, InUse}
+use Rattle.run_tokens.specs.Ops.{sum_below}
+use Rattle.run_tokens.specs.Does.{context_pages, reserve_pages, slot_pages, InUse}
 use Rattle.run_tokens.specs.Cluster.{World, events}
 use Rattle.run_tokens.specs.Needs.{Needs, ServedSo, got_spot, asked, mark, keep_in, born_spot}
 use Rattle.run_tokens.proofs.Talk.{same_numbers, other_numbers}

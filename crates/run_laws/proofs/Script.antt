@@ -1,5 +1,5 @@
 -- The commands of a run are the lines of the script, in their order, each where it is enabled.
-use Rattle.std.proofs.Common.{◌≡◌, ℕ, ◌+◌, ◌<◌, ◌≤◌, ◌==◌, ◌⊎◌, inl, inr, Bool, true, false, not, cond, Option, Some, None, List, [], ◌∷◌, refl, sym, ap, ◌∙◌, subst}
+use Rattle.std.proofs.Common.{◌≡◌, ◌≢◌, ℕ, ◌+◌, ◌<◌, ◌≤◌, ◌==◌, ◌⊎◌, inl, inr, Bool, true, false, not, cond, Option, Some, None, List, [], ◌∷◌, refl, sym, ap, ◌∙◌, subst}
 use Rattle.std.specs.Prelude.{ℤ, slice_get}
 use Rattle.call_table.specs.declared.process.End.{End}
 use Rattle.node_event.specs.declared.script.Order.{Order}
@@ -71,8 +71,7 @@ module _ (O : Ops) (S : Sound O) where
     so_on Did p number value child signal ends more poked (inr d) = inl (d.home, served_on Did p number value child signal ends more poked d.progress refl)
     so_on Broke p number value child signal ends more poked (inl d) = inl (d.home, served_on Broke p number value child signal ends more poked d.progress refl)
     so_on Broke p number value child signal ends more poked (inr d) = inl (d.home, served_on Broke p number value child signal ends more poked d.progress refl)
-    so_on Fell p number value child signal ends more poked (inl d) = inl (d.home, served_on Fell p number value child signal ends more poked d.progress refl)
-    so_on Fell p number value child signal ends more poked (inr d) = inl (d.home, served_on Fell p number value child signal ends more poked d.progress refl)
+    so_on Fell p number value child signal ends more poked d = inl (d.home, served_on Fell p number value child signal ends more poked d.progress refl)
     so_on Paused p number value child signal ends more poked d = inr (d.progress, record { line = refl; launched = λ ps. refl; served = λ q k. refl })
 
     moves_on : (what : Deed) → Does O what n old t new → Moves_on what
@@ -110,8 +109,7 @@ module _ (O : Ops) (S : Sound O) where
     so_home Did p number value child signal ends more poked (inr d) = d.home
     so_home Broke p number value child signal ends more poked (inl d) = d.home
     so_home Broke p number value child signal ends more poked (inr d) = d.home
-    so_home Fell p number value child signal ends more poked (inl d) = d.home
-    so_home Fell p number value child signal ends more poked (inr d) = d.home
+    so_home Fell p number value child signal ends more poked d = d.home
     so_home Paused p number value child signal ends more poked d = d.home
 
     at_home : (what : Deed) → (what ≡ Strange (pid_of what) → ⊥) → Does O what n old t new → AtHome what n
@@ -147,7 +145,7 @@ module _ (O : Ops) (S : Sound O) where
       ended_at p e = subst (λ (k : O.Kernel). HasEnded O k p) kernel e
 
       enabled_at : (o : Order) → EnabledHere O o old → Enabled O o es m
-      enabled_at (order.Run words) e = tt
+      enabled_at (order.Run words) e = subst (λ (k : O.Kernel). O.launch k ≢ None) kernel e
       enabled_at (order.Kill p s) e = tt
       enabled_at (order.Move p to) e = tt
       enabled_at (order.Feed text) e = tt

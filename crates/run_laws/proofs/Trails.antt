@@ -17,7 +17,7 @@ use Rattle.run_tokens.proofs.Coupling.{Part, Own, Child, Rest, part, got_brings}
 use Rattle.run_tokens.proofs.Quiet.{nowhere, nowhere_so, counts, child_so, home_so, count_typed}
 use Rattle.run_tokens.proofs.Stand.{Stands, Step, Path, child_apart}
 use Rattle.run_laws.proofs.Moves.{Balanced, path_balanced}
-use Rattle.run_laws.proofs.Replay.{alive}
+use Rattle.run_tokens.specs.Needs.{alive}
 use Rattle.run_laws.proofs.Played.{path_played}
 use Rattle.run_laws.proofs.Hops.{AtPlace, Ok, Inside, asked_brings, was_inside, inside_next, ok_next, step_bring, was_child, is_own, is_rest, is_born, moves_of}
 use Rattle.std.specs.Prelude.{ℤ}
@@ -118,8 +118,7 @@ module _ (O : Ops) (S : Sound O) where
     served_plain Did x number value child signal ends more poked (inr d) = subst (AllPlain O S) (sym d.base.posts) (tt, pokes_plain O S t.event.stamp old.believed poked)
     served_plain Broke x number value child signal ends more poked (inl d) = subst (AllPlain O S) (sym d.base.posts) (tt, pokes_plain O S t.event.stamp old.believed poked)
     served_plain Broke x number value child signal ends more poked (inr d) = subst (AllPlain O S) (sym d.base.posts) (tt, pokes_plain O S t.event.stamp old.believed poked)
-    served_plain Fell x number value child signal ends more poked (inl d) = subst (AllPlain O S) (sym d.base.posts) (tt, pokes_plain O S t.event.stamp old.believed poked)
-    served_plain Fell x number value child signal ends more poked (inr d) = subst (AllPlain O S) (sym d.base.posts) (tt, pokes_plain O S t.event.stamp old.believed poked)
+    served_plain Fell x number value child signal ends more poked d = subst (AllPlain O S) (sym d.base.posts) (tt, pokes_plain O S t.event.stamp old.believed poked)
     served_plain Paused x number value child signal ends more poked d = subst (AllPlain O S) (sym d.base.posts) (tt, pokes_plain O S t.event.stamp old.believed poked)
 
     home_belief : n ≡ 0 → (q : ℕ) → (sp q ≡ Nowhere → ⊥) → Ok O S sp (sp q) (mv q) (old.believed q).place (old.believed q).hops
@@ -252,17 +251,9 @@ module _ (O : Ops) (S : Sound O) where
             same_site : (g : Bool) (m : ℕ) (b : Body O) (k : Option Kept) (r : O.Request) → m ≡ site O (asked O g m b k r)
             same_site true m b k r = refl
             same_site false m b k r = refl
-    served_from Fell x number value child signal ends more poked c e (inl d) need = (d.from, asked_site need (way_tells O x (sp x) (way O d.from n (Call x d.request)) (took_way O x (sp x) w v (stands.at x) _ _ (in_out O w t v goes x _ _ (pokes O t.event.stamp old.believed poked) d.base.took d.base.posts (same_numbers x x refl) (same_numbers x x refl) (pokes_loose O x t.event.stamp old.believed poked)))), d.believed)
+    served_from Fell x number value child signal ends more poked c e d need = (d.from, asked_site need (way_tells O x (sp x) (way O d.from n (Call x d.request)) (took_way O x (sp x) w v (stands.at x) _ _ (in_out O w t v goes x _ _ (pokes O t.event.stamp old.believed poked) d.base.took d.base.posts (same_numbers x x refl) (same_numbers x x refl) (pokes_loose O x t.event.stamp old.believed poked)))), d.believed)
       where
         asked_site : ServedCall O n x Fell number value child signal ends more poked old new (sp x) st.own → ((body : Body O) × (kept : Option Kept) × (sp x ≡ Calls d.from body kept d.request) × (n ≡ 0)) → site O st.own ≡ d.from
-        asked_site y told = ap (site O) y.now ∙ (same_site y.held y.from y.body y.kept y.request ∙ (sym (ap (site O) y.was) ∙ ap (site O) told.2))
-          where
-            same_site : (g : Bool) (m : ℕ) (b : Body O) (k : Option Kept) (r : O.Request) → m ≡ site O (asked O g m b k r)
-            same_site true m b k r = refl
-            same_site false m b k r = refl
-    served_from Fell x number value child signal ends more poked c e (inr d) need = (d.from, asked_site need (call_tells O x (sp x) w (stands.at x) n d.home (record { from = d.from; request = d.request }) d.was), d.believed)
-      where
-        asked_site : ServedCall O n x Fell number value child signal ends more poked old new (sp x) st.own → ((body : Body O) × (kept : Option Kept) × (sp x ≡ Holds d.from body kept d.request)) → site O st.own ≡ d.from
         asked_site y told = ap (site O) y.now ∙ (same_site y.held y.from y.body y.kept y.request ∙ (sym (ap (site O) y.was) ∙ ap (site O) told.2))
           where
             same_site : (g : Bool) (m : ℕ) (b : Body O) (k : Option Kept) (r : O.Request) → m ≡ site O (asked O g m b k r)
@@ -275,8 +266,7 @@ module _ (O : Ops) (S : Sound O) where
     served_same Did x number value signal ends more poked (inr d) q = d.believed q
     served_same Broke x number value signal ends more poked (inl d) q = d.believed q
     served_same Broke x number value signal ends more poked (inr d) q = d.believed q
-    served_same Fell x number value signal ends more poked (inl d) q = d.believed q
-    served_same Fell x number value signal ends more poked (inr d) q = d.believed q
+    served_same Fell x number value signal ends more poked d q = d.believed q
     served_same Paused x number value signal ends more poked d q = d.believed q
 
     abbrev Belief : ℕ → Type 0
@@ -434,8 +424,7 @@ module _ (O : Ops) (S : Sound O) where
     served_taken Did x number value child signal ends more poked (inr d) = took_of x _ d.base.took tt
     served_taken Broke x number value child signal ends more poked (inl d) = took_of x _ d.base.took refl
     served_taken Broke x number value child signal ends more poked (inr d) = took_of x _ d.base.took tt
-    served_taken Fell x number value child signal ends more poked (inl d) = took_of x _ d.base.took refl
-    served_taken Fell x number value child signal ends more poked (inr d) = took_of x _ d.base.took tt
+    served_taken Fell x number value child signal ends more poked d = took_of x _ d.base.took refl
     served_taken Paused x number value child signal ends more poked d = took_of x _ d.base.took refl
 
     taken_of : (what : Deed) → Does O what n old t new → what ≡ t.event.what → ((q : ℕ) → what ≡ Strange q → ⊥) → TakenOf O (pid_of what) t.taken
@@ -659,7 +648,7 @@ module _ (O : Ops) (S : Sound O) where
   pub path_lives : (h : List (Turn O)) (sp : ℕ → Spot O) (w : World O) → Path O S h sp w → (q : ℕ) → O.live (w.nodes 0).kernel q ≡ true → sp q ≡ Nowhere → ⊥
   path_lives h sp w r q live none =
       let b = path_played O S h sp w r in
-      let z : true ≡ false = sym live ∙ (ap (λ (k : O.Kernel). O.live k q) b.agrees.kernel ∙ (b.agrees.alive q ∙ ap (alive O S) none)) in cc
+      let z : true ≡ false = sym live ∙ (ap (λ (k : O.Kernel). O.live k q) b.agrees.kernel ∙ (b.agrees.alive q ∙ ap (alive O) none)) in cc
 
   pub path_trails : (h : List (Turn O)) (sp : ℕ → Spot O) (w : World O) → Path O S h sp w → Trails h sp w
   path_trails [] sp w r = record {

@@ -115,8 +115,7 @@ module _ (O : Ops) where
   served_marks DidCall n p number value child signal ends more poked old t new (inr d) = marks_by n t p _ _ _ _ _ old new d.base ((refl, refl), pokes_from n t.event.stamp old.believed poked d.home) tt
   served_marks Broke n p number value child signal ends more poked old t new (inl d) = marks_by n t p _ _ _ _ _ old new d.base ((refl, refl), pokes_from n t.event.stamp old.believed poked d.home) refl
   served_marks Broke n p number value child signal ends more poked old t new (inr d) = marks_by n t p _ _ _ _ _ old new d.base ((refl, refl), pokes_from n t.event.stamp old.believed poked d.home) tt
-  served_marks Fell n p number value child signal ends more poked old t new (inl d) = marks_by n t p _ _ _ _ _ old new d.base ((refl, refl), pokes_from n t.event.stamp old.believed poked d.home) refl
-  served_marks Fell n p number value child signal ends more poked old t new (inr d) = marks_by n t p _ _ _ _ _ old new d.base ((refl, refl), pokes_from n t.event.stamp old.believed poked d.home) tt
+  served_marks Fell n p number value child signal ends more poked old t new d = marks_by n t p _ _ _ _ _ old new d.base ((refl, refl), pokes_from n t.event.stamp old.believed poked d.home) refl
   served_marks Paused n p number value child signal ends more poked old t new d = marks_by n t p _ _ _ _ _ old new d.base ((refl, refl), pokes_from n t.event.stamp old.believed poked d.home) refl
 
   marks : (what : Deed) (n : ℕ) (old : Local O) (t : Turn O) (new : Local O) → Does O what n old t new → Marks n t

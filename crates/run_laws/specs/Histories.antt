@@ -24,7 +24,7 @@ abbrev pub line : ℕ → Order → ScriptLine
 line n o = record { line = n; order = o }
 
 abbrev pub program : List Thing → Program
-program todo = record { pages = 1; todo = todo }
+program todo = record { pid = 0; pages = 1; todo = todo }
 
 -- a program that writes three bytes and exits
 abbrev pub hello_script : List ScriptLine

@@ -7,6 +7,7 @@ use Rattle.run_tokens.specs.Cluster.{World}
 use Rattle.run_laws.specs.Machine.{MachineState, play}
 use Rattle.run_laws.specs.Schedule.{schedule, told}
 use Rattle.run_laws.specs.Lawful.{Lawful}
+use Rattle.run_laws.specs.SilentLaw.{SilentLaw}
 use Rattle.run_laws.specs.OnePlace.{OnePlace}
 use Rattle.run_laws.specs.Outcomes.{outcomes}
 use Rattle.run_laws.specs.MoveLines.{MoveLines}
@@ -26,6 +27,7 @@ module _ (O : Ops) where
   pub record Holds (es : List Noted) (w : World O) : Type 0 where
     pub replays : Replays es w
     pub lawful : Lawful O es
+    pub silent : SilentLaw O es
     pub one_place : OnePlace O es
     pub grounded : Grounded O es
     pub move_lines : MoveLines O es

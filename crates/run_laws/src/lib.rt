@@ -2,15 +2,21 @@
 // given as a record of its types and operations, and here of a small one.
 #![tactic(auto)]
 
-ghost use Rattle.std.specs.Prelude.{◌≡◌, ◌≤◌, ◌<◌, ℕ, List};
+ghost use Rattle.std.specs.Prelude.{◌≡◌, ◌≤◌, ◌<◌, ◌∷◌, ℕ, List, length};
 ghost use Rattle.node_event.specs.declared.event.Event.{Event};
 ghost use Rattle.run_tokens.specs.Deeds.{all_noted};
-ghost use Rattle.run_tokens.specs.Notes.{Turn};
+ghost use Rattle.run_tokens.specs.Notes.{Post, Turn};
 ghost use Rattle.run_tokens.specs.Cluster.{World, Reached, events};
+ghost use Rattle.run_tokens.specs.Odd.{IsOdd, Timed, hops_end};
+ghost use Rattle.run_tokens.specs.Rests.{Awaits, AllRest};
 ghost use Rattle.run_laws.specs.Lawful.{Lawful};
 ghost use Rattle.run_laws.specs.Grounds.{Grounded};
 ghost use Rattle.run_laws.specs.Outcomes.{outcomes};
 ghost use Rattle.run_laws.specs.Whole.{Holds};
+ghost use Rattle.run_laws.specs.Due.{Same, Untaken};
+ghost use Rattle.run_laws.specs.Going.{Able};
+ghost use Rattle.run_laws.specs.Ending.{Ending};
+ghost use Rattle.run_laws.specs.EndStories.{hello_ends, reader_ends, keeper_ends, reached_goes_on, one_event_full, context_before, reader, reader_script, reader_events, keeper, keeper_script, keeper_events};
 ghost use Rattle.run_laws.specs.Carried.{Did, Sorted, own_events, shown, CarriedRun};
 ghost use Rattle.run_laws.specs.Histories.{read, left_out, hello_script, hello, hello_events, writer, twice_events, fork_script, forker, fork_events, move_script, mover, move_events, first_events, copy_events, refused_events, again_events, break_script, breaker, break_events, left_events, poke_script, poker, poke_events, unheeded_events};
 
@@ -27,9 +33,49 @@ pub fn laws_of_journals()
     ensures { (turns : ℕ → List (Turn mover)) (w : World mover) (es : List Event) → Did mover turns w → Sorted (all_noted mover.script es) → ((n : ℕ) → own_events n (all_noted mover.script es) ≡ shown mover (turns n)) → Holds mover (all_noted mover.script es) w × CarriedRun mover (all_noted mover.script es) w }
 {}
 
-/// There are such runs: the first line of the script is carried out.
+/// Where each stamp is exactly one more than its node's clock and its letter's stamp, no letter that comes is odd: in fewer than 2^32 - 1 turns no
+/// stamp, no clock and no count of landings comes near its end, and each letter lies on the link to its target.
+pub fn no_odd_letters()
+    ensures { (h : List (Turn mover)) (w : World mover) (run : Reached mover h w) (a n : ℕ) (l : Post mover) (rest : List (Post mover)) → Timed mover h w run → length h < hops_end → n < mover.nodes → w.links a n ≡ l ∷ rest → IsOdd mover n (w.nodes n) l → ⊥ }
+{}
+
+/// How it ends, at whatever moment: what a node can do without a letter is what is due there by the events and the one-node machine; where every link is
+/// empty and every node rests, the run is done or stuck, and each move line has its outcome or is open; and whose each node's contexts are. A letter lies on
+/// a link where one was posted and not taken. A node that has something to do can make a turn, or a half is due
+/// there before it, where the machine and its script are able, as these are.
+pub fn end_of_runs()
+    ensures able { Able mover }
+    ensures letters { (h : List (Turn mover)) (w : World mover) → Reached mover h w → (n : ℕ) → Same (Awaits mover n w) (Untaken mover n h) }
+    ensures ends { (h : List (Turn mover)) (w : World mover) (es : List Event) → Reached mover h w → all_noted mover.script es ≡ events mover h → Ending mover (all_noted mover.script es) w }
+{}
+
+/// And how it ends where the nodes did their turns by themselves and their journals are put in order.
+pub fn end_of_journals()
+    ensures { (turns : ℕ → List (Turn mover)) (w : World mover) (es : List Event) → Did mover turns w → Sorted (all_noted mover.script es) → ((n : ℕ) → own_events n (all_noted mover.script es) ≡ shown mover (turns n)) → Ending mover (all_noted mover.script es) w }
+{}
+
+/// Worked ends: a program that exits, and the run is done; one that reads while nothing comes, and the run is stuck; one that is to move meanwhile, whose
+/// move is open then; and one that a signal reaches in its read, at which more is due. A journal that is full where more is due; and a context that was served
+/// and is still that of its `sent`.
+pub fn worked_ends()
+    ensures done { hello_ends }
+    ensures stuck { reader_ends }
+    ensures open { keeper_ends }
+    ensures more { reached_goes_on }
+    ensures full { one_event_full }
+    ensures before { context_before }
+{}
+
+/// These runs are made turn by turn, and at their end every link is empty and every node rests.
+pub fn ends_exist()
+    ensures done { (h : List (Turn hello)) × (w : World hello) × Reached hello h w × AllRest hello w × (events hello h ≡ read hello_script hello_events) }
+    ensures stuck { (h : List (Turn reader)) × (w : World reader) × Reached reader h w × AllRest reader w × (events reader h ≡ read reader_script reader_events) }
+    ensures open { (h : List (Turn keeper)) × (w : World keeper) × Reached keeper h w × AllRest keeper w × (events keeper h ≡ read keeper_script keeper_events) }
+{}
+
+/// There are such runs, also with exact stamps: the first line of the script is carried out.
 pub fn runs_exist()
-    ensures { (h : List (Turn mover)) × (w : World mover) × Reached mover h w × (events mover h ≡ read move_script first_events) }
+    ensures { (h : List (Turn mover)) × (w : World mover) × (run : Reached mover h w) × Timed mover h w run × (events mover h ≡ read move_script first_events) }
 {}
 
 /// Lawful are: the nine events of a program that writes and exits, a fork, a move from its asking to its landing, a held call that a signal

@@ -4,4 +4,6 @@ pub mod Own
 pub mod Run
 pub mod Quiet
 pub mod Coupling
+pub mod Alive
+pub mod Sums
 pub mod Stand

@@ -1,16 +1,13 @@
 -- What one turn of a node may do.
-use Rattle.std.specs.Prelude.{◌≡◌, ◌≢◌, ℕ, zero, suc, nat_lt, max, ◌-◌, slice_get, ℤ, ◌+◌, ◌<◌, ◌≤◌, ◌==◌, ◌⊎◌, Bool, true, false, cond, Option, Some, None, List, ◌∷◌, []}
+use Rattle.std.specs.Prelude.{◌≡◌, ◌≢◌, ℕ, nat_lt, max, ◌-◌, slice_get, ℤ, ◌+◌, ◌<◌, ◌≤◌, ◌==◌, ◌⊎◌, Bool, true, false, cond, Option, Some, None, List, ◌∷◌, []}
 use Rattle.call_table.specs.declared.process.End.{End}
-use Rattle.run_tokens.specs.Ops.{Ops, is_child, typed, has_text}
+use Rattle.run_tokens.specs.Ops.{Ops, is_child, typed, has_text, sum_below, one_if}
 use Rattle.node_event.specs.declared.script.Order.{Order}
 use Rattle.node_event.specs.declared.script.Order.TheVariants as order
+use Rattle.run_tokens.specs.Gossip.{FarPlaces, one_step}
 use Rattle.run_tokens.specs.Deeds.{Input, Text, Finish, Nothing, Manner, Did, Broke, Fell, Paused, Why, Gone, Moving, There, KeptTold, Deed, Run, Kill, Bid, Unsent, Other, Steps, Sent, Heed, Held, Served, Got, Poked, Begin, Keep, Missed, Again, Allows, Denies, Depart, Stay, Land, Told, Refused, Closed, Strange}
-use Rattle.run_tokens.specs.Notes.{served_one, Kept, State, Running, Waiting, Asking, Believed, is_some, Done, Note, Call, Pause, Reply, Poke, Go, NotHere, Ask, Allow, Deny, Move, Landed, NoMove, Post, letter, Turn, Body, fresh, Context, context, Called, Slot, Local}
-use Rattle.run_tokens.specs.Home.{both, other_than, live_of, HasEnded, UnsentFor, unheld, after, returned, First, last, Acts, done_of, to_poke, pokes, line_closed, Answers, born_at, first_none}
-
-abbrev pub sum_below : ℕ → (ℕ → ℕ) → ℕ
-sum_below zero f = 0
-sum_below (suc n) f = sum_below n f + f n
+use Rattle.run_tokens.specs.Notes.{served_one, Kept, State, Running, Waiting, Asking, Believed, is_some, Done, Note, Call, Pause, Reply, Poke, Half, Go, NotHere, Ask, Allow, Deny, Move, Landed, NoMove, Post, letter, Turn, Body, fresh, Context, context, Called, Slot, Local}
+use Rattle.run_tokens.specs.Home.{both, other_than, live_of, HasEnded, NeverGiven, UnsentFor, unheld, after, returned, First, last, Acts, done_of, to_poke, pokes, line_closed, Answers, born_at, first_none, fits_done}
 
 module _ (O : Ops) where
   -- changes of a slot
@@ -40,9 +37,18 @@ module _ (O : Ops) where
     pub kernel : new.kernel ≡ old.kernel
     pub believed : (q : ℕ) → new.believed q ≡ old.believed q
     pub progress : new.progress ≡ old.progress
+    pub gossip : new.gossip ≡ old.gossip
+
+  -- home's own part stays, and a quantum of steps is counted
+  pub record Counts (old new : Local O) : Type 0 where
+    pub kernel : new.kernel ≡ old.kernel
+    pub believed : (q : ℕ) → new.believed q ≡ old.believed q
+    pub progress : new.progress ≡ old.progress
+    pub gossip : new.gossip ≡ one_step old.gossip
 
   -- a line of the script is enabled
   abbrev pub EnabledHere : Order → Local O → Type 0
+  EnabledHere (order.Run words) old = O.launch old.kernel ≢ None
   EnabledHere (order.Wait p) old = HasEnded O old.kernel p
   EnabledHere (order.After p k) old = (k ≤ old.progress.served p) ⊎ HasEnded O old.kernel p
   EnabledHere (order.Held p) old = (unheld O (old.slots p).call ≡ false) ⊎ HasEnded O old.kernel p
@@ -90,6 +96,16 @@ module _ (O : Ops) where
     pub beyond : (p : ℕ) → bound ≤ p → slot_pages (l.slots p) ≡ 0
     pub sum : used ≡ sum_below bound (λ p. slot_pages (l.slots p))
 
+  -- the reservations that stand at a node
+  abbrev pub is_reserved : Option ℕ → Bool
+  is_reserved None = false
+  is_reserved (Some need) = true
+
+  pub record Reserved (l : Local O) (total : ℕ) : Type 0 where
+    pub bound : ℕ
+    pub beyond : (p : ℕ) → bound ≤ p → (l.slots p).reserve ≡ None
+    pub sum : total ≡ sum_below bound (λ p. one_if (is_reserved (l.slots p).reserve))
+
   -- the processes that home pokes after a call of p
   abbrev pub pokes_of : ℕ → O.Kernel → (ℕ → Slot O) → Option ℕ → Option ℕ → List ℕ
   pokes_of p k slots a b = both (to_poke O k slots (other_than p a)) (to_poke O k slots (other_than p b))
@@ -100,6 +116,7 @@ module _ (O : Ops) where
     pub launched : O.launch old.kernel ≡ Some new.kernel
     pub next : p ≡ O.count old.kernel + 1
     pub base : Base p None None [] (hosts (Some (context O (fresh O (O.loaded i p)) Running))) same old t new
+    pub gossip : new.gossip ≡ old.gossip
     pub believed : (q : ℕ) → new.believed q ≡ cond (q == p) (record { place = 0; hops = 0 }) (old.believed q)
     pub words : List (List ℕ)
     pub order : Ordered line (order.Run words) (p ∷ old.progress.launched) old new
@@ -110,6 +127,7 @@ module _ (O : Ops) where
     pub kernel : new.kernel ≡ O.raise old.kernel p s
     pub tells : poked ≡ both (to_poke O new.kernel old.slots (cond (O.hit old.kernel p s) (Some p) None)) None
     pub base : Base p None None (pokes O t.event.stamp old.believed poked) same same old t new
+    pub gossip : new.gossip ≡ old.gossip
     pub believed : (q : ℕ) → new.believed q ≡ old.believed q
     pub order : Ordered line (order.Kill p s) old.progress.launched old new
 
@@ -118,6 +136,7 @@ module _ (O : Ops) where
     pub live : O.live old.kernel p ≡ true
     pub base : Base p None None (letter O 0 (old.believed p).place t.event.stamp (Go p to (old.believed p).hops line) ∷ []) same same old t new
     pub kernel : new.kernel ≡ old.kernel
+    pub gossip : new.gossip ≡ old.gossip
     pub believed : (q : ℕ) → new.believed q ≡ old.believed q
     pub order : Ordered line (order.Move p to) old.progress.launched old new
 
@@ -126,6 +145,7 @@ module _ (O : Ops) where
     pub why : UnsentFor O never old.kernel p
     pub base : Base p None None [] same same old t new
     pub kernel : new.kernel ≡ old.kernel
+    pub gossip : new.gossip ≡ old.gossip
     pub believed : (q : ℕ) → new.believed q ≡ old.believed q
     pub to : ℕ
     pub order : Ordered line (order.Move p to) old.progress.launched old new
@@ -135,6 +155,7 @@ module _ (O : Ops) where
     pub text : has_text O input ≡ true
     pub kernel : new.kernel ≡ typed O input old.kernel
     pub base : Base 0 None None [] same same old t new
+    pub gossip : new.gossip ≡ old.gossip
     pub believed : (q : ℕ) → new.believed q ≡ old.believed q
     pub what : Order
     pub suits : Feeds input what
@@ -147,8 +168,10 @@ module _ (O : Ops) where
     pub unpoked : body.poked ≡ false
     pub went : O.went body.user k ≡ Some user
     pub bounds : Quantum k user
+    -- with two nodes or more a half goes before the 17th quantum since the last one
+    pub no_half : 2 ≤ O.nodes → old.gossip.steps < 16
     pub base : Base p None None [] (hosts (Some (context O (record body { user = user }) Running))) same old t new
-    pub still : Still old new
+    pub still : Counts old new
 
   pub record Sends (n p number : ℕ) (old : Local O) (t : Turn O) (new : Local O) : Type 0 where
     pub body : Body O
@@ -157,14 +180,14 @@ module _ (O : Ops) where
     pub unpoked : body.poked ≡ false
     pub asks : O.asks body.user ≡ Some request
     pub number_is : number ≡ O.number request
-    pub base : Base p None None (letter O n 0 t.event.stamp (Call p request) ∷ []) (hosts (Some (context O body (Waiting None)))) same old t new
+    pub base : Base p None None (letter O n 0 t.event.stamp (Call p request) ∷ []) (hosts (Some (context O body (Waiting false None)))) same old t new
     pub still : Still old new
 
   pub record Heeds (n p : ℕ) (old : Local O) (t : Turn O) (new : Local O) : Type 0 where
     pub body : Body O
     pub was : (old.slots p).context ≡ Some (context O body Running)
     pub poked : body.poked ≡ true
-    pub base : Base p None None (letter O n 0 t.event.stamp (Pause p (O.room body.user)) ∷ []) (hosts (Some (context O (record body { poked = false }) (Waiting None)))) same old t new
+    pub base : Base p None None (letter O n 0 t.event.stamp (Pause p (O.room body.user)) ∷ []) (hosts (Some (context O (record body { poked = false }) (Waiting true None)))) same old t new
     pub still : Still old new
 
   pub record Holding (n p number : ℕ) (old : Local O) (t : Turn O) (new : Local O) : Type 0 where
@@ -191,6 +214,7 @@ module _ (O : Ops) where
     pub number_is : number ≡ Some (O.number request)
     pub tells : poked ≡ pokes_of p new.kernel old.slots first.raised (last O first.kernel p (O.room_of request)).raised
     pub base : Base p None (Some (letter O from n stamp (Call p request))) (letter O n from t.event.stamp (Reply p (done_of O p first (last O first.kernel p (O.room_of request)))) ∷ pokes O t.event.stamp old.believed poked) same same old t new
+    pub gossip : new.gossip ≡ old.gossip
     pub believed : (q : ℕ) → new.believed q ≡ born_at O from child old.believed q
     pub progress : new.progress ≡ served_one p old.progress
 
@@ -206,6 +230,7 @@ module _ (O : Ops) where
     pub number_is : number ≡ Some (O.number request)
     pub tells : poked ≡ pokes_of p new.kernel old.slots first.raised (last O first.kernel p (O.room_of request)).raised
     pub base : Base p None None (letter O n from t.event.stamp (Reply p (done_of O p first (last O first.kernel p (O.room_of request)))) ∷ pokes O t.event.stamp old.believed poked) (holds None) same old t new
+    pub gossip : new.gossip ≡ old.gossip
     pub believed : (q : ℕ) → new.believed q ≡ born_at O from child old.believed q
     pub progress : new.progress ≡ served_one p old.progress
 
@@ -218,13 +243,15 @@ module _ (O : Ops) where
     pub number_is : number ≡ None
     pub tells : poked ≡ pokes_of p new.kernel old.slots None (last O old.kernel p room).raised
     pub base : Base p None (Some (letter O from n stamp (Pause p room))) (letter O n from t.event.stamp (Reply p (done_of O p (first_none O old.kernel) (last O old.kernel p room))) ∷ pokes O t.event.stamp old.believed poked) same same old t new
+    pub gossip : new.gossip ≡ old.gossip
     pub believed : (q : ℕ) → new.believed q ≡ old.believed q
     pub progress : new.progress ≡ old.progress
 
+  -- a fault is never held, so it is served at once
   abbrev pub ServedBy : Manner → ℕ → ℕ → Option ℕ → Option ℤ → Option ℕ → Option ℕ → Option End → Bool → List ℕ → Local O → Turn O → Local O → Type 0
   ServedBy Did n p number value child signal ends more poked old t new = Serves n p Did number value child signal ends more poked old t new ⊎ Retries n p Did number value child signal ends more poked old t new
   ServedBy Broke n p number value child signal ends more poked old t new = Serves n p Broke number value child signal ends more poked old t new ⊎ Retries n p Broke number value child signal ends more poked old t new
-  ServedBy Fell n p number value child signal ends more poked old t new = Serves n p Fell number value child signal ends more poked old t new ⊎ Retries n p Fell number value child signal ends more poked old t new
+  ServedBy Fell n p number value child signal ends more poked old t new = Serves n p Fell number value child signal ends more poked old t new
   ServedBy Paused n p number value child signal ends more poked old t new = Pausing n p number value child signal ends more poked old t new
 
   -- what a reply makes of a context: dropped, running on, or beginning its kept move
@@ -251,9 +278,10 @@ module _ (O : Ops) where
     pub from : ℕ
     pub stamp : ℕ
     pub body : Body O
+    pub pause : Bool
     pub keeps : Option Kept
     pub done : Done O
-    pub was : (old.slots p).context ≡ Some (context O body (Waiting keeps))
+    pub was : (old.slots p).context ≡ Some (context O body (Waiting pause keeps))
     pub child_is : child ≡ done.child
     pub ended_is : ended ≡ done.ended
     pub kept_is : kept ≡ kept_told keeps done.ended
@@ -262,7 +290,7 @@ module _ (O : Ops) where
 
   abbrev pub Awake : State → Type 0
   Awake Running = Unit {0}
-  Awake (Waiting k) = ⊥
+  Awake (Waiting pause k) = ⊥
   Awake (Asking to line) = Unit {0}
 
   pub record Marks (n p : ℕ) (old : Local O) (t : Turn O) (new : Local O) : Type 0 where
@@ -277,7 +305,7 @@ module _ (O : Ops) where
 
   abbrev pub Asleep : Option (Context O) → Type 0
   Asleep None = Unit {0}
-  Asleep (Some c) = (k : Option Kept) × (c.state ≡ Waiting k)
+  Asleep (Some c) = (pause : Bool) × (k : Option Kept) × (c.state ≡ Waiting pause k)
 
   pub record Ignores (n p : ℕ) (old : Local O) (t : Turn O) (new : Local O) : Type 0 where
     pub from : ℕ
@@ -305,9 +333,10 @@ module _ (O : Ops) where
     pub stamp : ℕ
     pub hops : ℕ
     pub body : Body O
-    pub was : (old.slots p).context ≡ Some (context O body (Waiting None))
+    pub pause : Bool
+    pub was : (old.slots p).context ≡ Some (context O body (Waiting pause None))
     pub away : to ≢ n
-    pub base : Base p None (Some (letter O from n stamp (Go p to hops line))) [] (hosts (Some (context O body (Waiting (Some (record { to = to; line = line })))))) same old t new
+    pub base : Base p None (Some (letter O from n stamp (Go p to hops line))) [] (hosts (Some (context O body (Waiting pause (Some (record { to = to; line = line })))))) same old t new
     pub still : Still old new
 
   pub record Misses (n p to line : ℕ) (old : Local O) (t : Turn O) (new : Local O) : Type 0 where
@@ -382,14 +411,15 @@ module _ (O : Ops) where
     pub tells : poked ≡ is_some (O.lowest old.kernel p)
     pub base : Base p None (Some (letter O at n stamp (Landed p source hops line))) (cond poked (letter O n (place_told at hops later (old.believed p)).place t.event.stamp (Poke p) ∷ []) []) same same old t new
     pub kernel : new.kernel ≡ old.kernel
+    pub gossip : new.gossip ≡ old.gossip
     pub believed : (q : ℕ) → new.believed q ≡ cond (q == p) (place_told at hops later (old.believed p)) (old.believed q)
     pub progress : new.progress ≡ old.progress
 
   -- a holder refuses a Go: it is moving already, or it is there
   abbrev pub RefusedFor : Why → ℕ → ℕ → Option (Context O) → Type 0
   RefusedFor Gone n to c = ⊥
-  RefusedFor Moving n to c = (b : Body O) × (to2 : ℕ) × (line2 : Option ℕ) × (k : Kept) × ((c ≡ Some (context O b (Asking to2 line2))) ⊎ (c ≡ Some (context O b (Waiting (Some k)))))
-  RefusedFor There n to c = (b : Body O) × ((c ≡ Some (context O b Running)) ⊎ (c ≡ Some (context O b (Waiting None)))) × (to ≡ n)
+  RefusedFor Moving n to c = ((b : Body O) × (to2 : ℕ) × (line2 : Option ℕ) × (c ≡ Some (context O b (Asking to2 line2)))) ⊎ ((b : Body O) × (pause : Bool) × (k : Kept) × (c ≡ Some (context O b (Waiting pause (Some k)))))
+  RefusedFor There n to c = (((b : Body O) × (c ≡ Some (context O b Running))) ⊎ ((b : Body O) × (pause : Bool) × (c ≡ Some (context O b (Waiting pause None))))) × (to ≡ n)
 
   pub record RefusesGo (n p to : ℕ) (why : Why) (line : ℕ) (old : Local O) (t : Turn O) (new : Local O) : Type 0 where
     pub from : ℕ
@@ -423,23 +453,33 @@ module _ (O : Ops) where
 
   -- when a letter does not fit
   abbrev pub NotWaiting : Option (Context O) → Type 0
-  NotWaiting c = (b : Body O) (k : Option Kept) → c ≢ Some (context O b (Waiting k))
+  NotWaiting c = (b : Body O) (pause : Bool) (k : Option Kept) → c ≢ Some (context O b (Waiting pause k))
+
+  -- the context waits, and what comes is no answer to it
+  abbrev pub WrongDone : Option (Context O) → Done O → Type 0
+  WrongDone c d = (b : Body O) × (pause : Bool) × (k : Option Kept) × (c ≡ Some (context O b (Waiting pause k))) × (fits_done O pause b.user d ≡ false)
 
   abbrev pub NotAsking : ℕ → Option (Context O) → Type 0
   NotAsking to c = (b : Body O) (line : Option ℕ) → c ≢ Some (context O b (Asking to line))
 
+  -- the child that a reply brings is here already, or home never gave its pid
+  abbrev pub WrongChild : ℕ → Local O → Option ℕ → Type 0
+  WrongChild n old None = ⊥
+  WrongChild n old (Some c) = ((old.slots c).context ≢ None) ⊎ ((n ≡ 0) × NeverGiven O old.kernel c)
+
   abbrev pub Misfit : ℕ → ℕ → Local O → Note O → Type 0
-  Misfit n from old (Call p r) = (n ≢ 0) ⊎ ((old.slots p).call ≢ None)
-  Misfit n from old (Pause p r) = (n ≢ 0) ⊎ ((old.slots p).call ≢ None)
-  Misfit n from old (Reply p d) = NotWaiting (old.slots p).context
+  Misfit n from old (Call p r) = (n ≢ 0) ⊎ ((O.live old.kernel p ≡ false) ⊎ (((old.slots p).call ≢ None) ⊎ (O.fits_request r ≡ false)))
+  Misfit n from old (Pause p r) = (n ≢ 0) ⊎ ((O.live old.kernel p ≡ false) ⊎ ((old.slots p).call ≢ None))
+  Misfit n from old (Reply p d) = NotWaiting (old.slots p).context ⊎ (WrongDone (old.slots p).context d ⊎ WrongChild n old d.child)
   Misfit n from old (Poke p) = ⊥
+  Misfit n from old (Half places) = ⊥
   Misfit n from old (Go p to hops line) = ⊥
-  Misfit n from old (NotHere p to hops line) = n ≢ 0
-  Misfit n from old (Ask p need) = ((old.slots p).context ≢ None) ⊎ ((old.slots p).reserve ≢ None)
+  Misfit n from old (NotHere p to hops line) = (n ≢ 0) ⊎ NeverGiven O old.kernel p
+  Misfit n from old (Ask p need) = ((old.slots p).context ≢ None) ⊎ (((old.slots p).reserve ≢ None) ⊎ (((n ≡ 0) × NeverGiven O old.kernel p) ⊎ ((total : ℕ) × Reserved old total × (64 ≤ total))))
   Misfit n from old (Allow p) = NotAsking from (old.slots p).context
   Misfit n from old (Deny p need free) = NotAsking from (old.slots p).context
-  Misfit n from old (Move p u hops line) = ((old.slots p).context ≢ None) ⊎ ((old.slots p).reserve ≡ None)
-  Misfit n from old (Landed p source hops line) = n ≢ 0
+  Misfit n from old (Move p u hops line) = ((old.slots p).context ≢ None) ⊎ (((old.slots p).reserve ≡ None) ⊎ (O.pid_of u ≢ p))
+  Misfit n from old (Landed p source hops line) = (n ≢ 0) ⊎ NeverGiven O old.kernel p
   Misfit n from old (NoMove line) = n ≢ 0
 
   abbrev pub pid_of_note : Note O → ℕ
@@ -447,6 +487,7 @@ module _ (O : Ops) where
   pid_of_note (Pause p r) = p
   pid_of_note (Reply p d) = p
   pid_of_note (Poke p) = p
+  pid_of_note (Half places) = 0
   pid_of_note (Go p to hops line) = p
   pid_of_note (NotHere p to hops line) = p
   pid_of_note (Ask p need) = p
@@ -461,14 +502,19 @@ module _ (O : Ops) where
   FarNode (Go p to hops line) = O.nodes ≤ to
   FarNode (NotHere p to hops line) = O.nodes ≤ to
   FarNode (Landed p source hops line) = O.nodes ≤ source
+  FarNode (Half places) = FarPlaces O.nodes places
   FarNode _ = ⊥
+
+  -- the letter does not fit, whatever its stamp
+  abbrev pub Unfit : ℕ → ℕ → Local O → Note O → Type 0
+  Unfit n from old note = Misfit n from old note ⊎ ((O.nodes ≤ from) ⊎ FarNode note)
 
   pub record Skips (n p : ℕ) (old : Local O) (t : Turn O) (new : Local O) : Type 0 where
     pub from : ℕ
     pub stamp : ℕ
     pub note : Note O
     pub pid : pid_of_note note ≡ p
-    pub misfit : Misfit n from old note ⊎ ((O.nodes ≤ from) ⊎ FarNode note)
+    pub misfit : Unfit n from old note
     pub base : Base p None (Some (letter O from n stamp note)) [] same same old t new
     pub still : Still old new
 
@@ -507,6 +553,6 @@ module _ (O : Ops) where
   pub record Makes (n : ℕ) (old : Local O) (t : Turn O) (new : Local O) : Type 0 where
     pub node : t.event.node ≡ n
     pub below : n < O.nodes
-    pub stamp_is : t.event.stamp ≡ next_stamp old.clock t.taken
+    pub stamp_is : next_stamp old.clock t.taken ≤ t.event.stamp
     pub clock : new.clock ≡ t.event.stamp
     pub does : Does t.event.what n old t new

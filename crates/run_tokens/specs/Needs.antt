@@ -1,10 +1,10 @@
 -- What each event needs of its process's spot, and what it makes of it. All laws follow from this alone.
-use Rattle.std.specs.Prelude.{◌≡◌, ◌≢◌, ℕ, nat_lt, ◌-◌, ◌≤◌, ℤ, ◌+◌, ◌<◌, ◌==◌, ◌⊎◌, Bool, true, false, cond, Option, Some, None, List}
+use Rattle.std.specs.Prelude.{◌≡◌, ◌≢◌, ℕ, nat_lt, ◌-◌, ◌≤◌, ℤ, ◌+◌, ◌<◌, ◌==◌, ◌⊎◌, Bool, true, false, not, cond, Option, Some, None, List}
 use Rattle.call_table.specs.declared.process.End.{End}
 use Rattle.run_tokens.specs.Ops.{Ops, IsMove, is_child, typed, has_text}
 use Rattle.run_tokens.specs.Deeds.{Input, Manner, Did, Broke, Fell, Paused, KeptTold, Deed, Run, Kill, Bid, Unsent, Other, Steps, Sent, Heed, Held, Served, Got, Poked, Begin, Keep, Missed, Again, Allows, Denies, Depart, Stay, Land, Told, Refused, Closed, Strange, pid_of, child_of}
 use Rattle.run_tokens.specs.Notes.{Done, Body, fresh, Kept, Local, is_some}
-use Rattle.run_tokens.specs.Home.{both, UnsentFor, returned, after, First, last, Acts, Answers, done_of, first_none, to_poke}
+use Rattle.run_tokens.specs.Home.{both, UnsentFor, returned, after, First, last, Acts, Answers, done_of, first_none, to_poke, fits_done}
 use Rattle.run_tokens.specs.Spots.{Spot, Nowhere, Runs, Calls, Holds, Pauses, Answered, Asks, Granted, Denied, Travels, InReply, Ended}
 use Rattle.run_tokens.specs.Does.{Quantum, InUse, pokes_of, kept_told, RefusedFor, NoNews}
 
@@ -355,6 +355,51 @@ module _ (O : Ops) where
   user_at (Travels a c b l need) = b.user
   user_at (InReply q u) = u
   user_at (Ended u) = u
+
+  -- the kernel has it live
+  abbrev pub alive : Spot O → Bool
+  alive Nowhere = false
+  alive (Runs m b) = true
+  alive (Calls m b k r) = true
+  alive (Holds m b k r) = true
+  alive (Pauses m b k r) = true
+  alive (Answered m b k d x y) = not d.ended
+  alive (Asks m b to l need) = true
+  alive (Granted m b to l need) = true
+  alive (Denied m b to l need free) = true
+  alive (Travels a c b l need) = true
+  alive (InReply q u) = true
+  alive (Ended u) = false
+
+  -- what is under way for a process is what its user state asks, and what comes for it fits
+  abbrev pub Right : Spot O → Type 0
+  Right Nowhere = Unit {0}
+  Right (Runs m b) = Unit {0}
+  Right (Calls m b k r) = O.asks b.user ≡ Some r
+  Right (Holds m b k r) = O.asks b.user ≡ Some r
+  Right (Pauses m b k r) = O.room b.user ≡ r
+  Right (Answered m b k d x y) = fits_done O x b.user d ≡ true
+  Right (Asks m b to l need) = need ≡ O.pages b.user
+  Right (Granted m b to l need) = need ≡ O.pages b.user
+  Right (Denied m b to l need free) = need ≡ O.pages b.user
+  Right (Travels a c b l need) = need ≡ O.pages b.user
+  Right (InReply q u) = Unit {0}
+  Right (Ended u) = Unit {0}
+
+  -- its user state is its own
+  abbrev pub Named : ℕ → Spot O → Type 0
+  Named p Nowhere = Unit {0}
+  Named p (Runs m b) = O.pid_of b.user ≡ p
+  Named p (Calls m b k r) = O.pid_of b.user ≡ p
+  Named p (Holds m b k r) = O.pid_of b.user ≡ p
+  Named p (Pauses m b k r) = O.pid_of b.user ≡ p
+  Named p (Answered m b k d x y) = O.pid_of b.user ≡ p
+  Named p (Asks m b to l need) = O.pid_of b.user ≡ p
+  Named p (Granted m b to l need) = O.pid_of b.user ≡ p
+  Named p (Denied m b to l need free) = O.pid_of b.user ≡ p
+  Named p (Travels a c b l need) = O.pid_of b.user ≡ p
+  Named p (InReply q u) = O.pid_of u ≡ p
+  Named p (Ended u) = Unit {0}
 
   -- what an event makes of the spot of the child q that it names, its process being at s
   abbrev pub born_spot : Deed → ℕ → Spot O → ℕ → Spot O

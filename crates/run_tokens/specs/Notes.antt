@@ -1,6 +1,7 @@
 -- Letters between nodes, contexts, and what a node keeps of each process.
 use Rattle.std.specs.Prelude.{ℕ, ◌+◌, ◌==◌, cond, [], Bool, true, false, Option, Some, None, List}
 use Rattle.run_tokens.specs.Ops.{Ops}
+use Rattle.run_tokens.specs.Gossip.{Entry, Gossip}
 use Rattle.run_tokens.specs.Deeds.{Noted}
 
 pub record Kept : Type 0 where
@@ -9,7 +10,7 @@ pub record Kept : Type 0 where
 
 pub data State : Type 0 where
   Running : State
-  Waiting : (kept : Option Kept) → State
+  Waiting : (pause : Bool) (kept : Option Kept) → State
   Asking : (to : ℕ) (line : Option ℕ) → State
 
 -- the believed place of a process, and the most hops told
@@ -56,6 +57,7 @@ module _ (O : Ops) where
     Move : (pid : ℕ) (user : O.User) (hops : ℕ) (line : Option ℕ) → Note
     Landed : (pid source hops : ℕ) (line : Option ℕ) → Note
     NoMove : (line : ℕ) → Note
+    Half : (places : List (Option Entry)) → Note
 
   pub record Post : Type 0 where
     pub from : ℕ
@@ -103,6 +105,7 @@ module _ (O : Ops) where
     pub slots : ℕ → Slot
     pub believed : ℕ → Believed
     pub progress : Progress
+    pub gossip : Gossip
 
   pub record Way : Type 0 where
     pub from : ℕ
