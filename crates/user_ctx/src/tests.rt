@@ -522,8 +522,8 @@ fn ends(rt: &impl Abort, alloc: Global, user: &mut User) -> (u32, u32, u32) {
 }
 
 fn grows(rt: &impl Abort, user: &mut User, need: u32) {
-    match user.step() {
-        Stop::Grows => assert_eq!(rt; user.grow(), Ok(())),
+    match user.run(1) {
+        (0, Stop::Grows) => assert_eq!(rt; user.grow(), Ok(())),
         _ => assert!(rt; false),
     }
     assert_eq!(rt; user.need(), need);
@@ -541,7 +541,7 @@ fn enters(rt: &impl Abort, user: &mut User, signal: u8, handler: u32, restorer: 
     assert!(rt; user.push_frame(signal, handler, restorer, mask));
 }
 
-fn act(rt: &impl Abort, alloc: Global, user: &mut User, act: &Act) {
+fn does(rt: &impl Abort, alloc: Global, user: &mut User, act: &Act) {
     match *act {
         Act::Runs(most, went, stop) => assert_eq!(rt; user.run(most), (went, stop)),
         Act::Grows(need) => grows(rt, user, need),
@@ -557,7 +557,7 @@ fn act(rt: &impl Abort, alloc: Global, user: &mut User, act: &Act) {
 
 fn acts(rt: &impl Abort, alloc: Global, user: &mut User, all: &[Act]) {
     for one in all {
-        act(rt, alloc, user, one);
+        does(rt, alloc, user, one);
     }
 }
 
@@ -580,7 +580,7 @@ fn calls_and_their_returns(rt: HostRuntime) {
 }
 
 /// What an instruction leaves in a2.
-fn result(rt: &impl Abort, alloc: Global, row: &(u32, u32, u32, u32, u32)) {
+fn leaves(rt: &impl Abort, alloc: Global, row: &(u32, u32, u32, u32, u32)) {
     let (first, second, a0, a1, want) = *row;
     let mut user = process(rt, alloc, &[first, second, SET_EXIT, ECALL], a0, a1);
     assert_eq!(rt; ends(rt, alloc, &mut user).1, want, "{first}");
@@ -589,11 +589,11 @@ fn result(rt: &impl Abort, alloc: Global, row: &(u32, u32, u32, u32, u32)) {
 #[test]
 fn each_instruction_has_its_result(rt: HostRuntime) {
     for row in &RESULTS {
-        result(&rt, rt.alloc(), row);
+        leaves(&rt, rt.alloc(), row);
     }
 }
 
-fn fault(rt: &impl Abort, alloc: Global, row: &(u32, u32, u32, u8)) {
+fn faults(rt: &impl Abort, alloc: Global, row: &(u32, u32, u32, u8)) {
     let (word, a0, a1, signal) = *row;
     let mut user = process(rt, alloc, &[word], a0, a1);
     let (went, stop) = user.run(10);
@@ -604,7 +604,7 @@ fn fault(rt: &impl Abort, alloc: Global, row: &(u32, u32, u32, u8)) {
 #[test]
 fn each_fault_has_its_signal(rt: HostRuntime) {
     for row in &FAULTS {
-        fault(&rt, rt.alloc(), row);
+        faults(&rt, rt.alloc(), row);
     }
 }
 
