@@ -1,8 +1,7 @@
 -- One ready instruction, and several.
-use Rattle.std.proofs.Common.{◌≡◌, ◌≢◌, inl, inr, Bool, true, false, ℕ, zero, suc, ◌+◌, ◌-◌, ◌*◌, ◌/◌, ◌%◌, ◌^◌, ◌<◌, ◌≤◌, List, [], ◌∷◌, refl, ap, ◌∙◌, sym, subst, arith, length, drop, slice_index_or, Option, Some, None, Result, Ok, Err}
-use Rattle.std.specs.Prelude.{◌==◌, if◌then◌else◌}
+use Rattle.std.proofs.Common.{◌≡◌, ◌≢◌, inl, inr, Bool, true, false, ℕ, ◌+◌, ◌-◌, ◌*◌, ◌%◌, ◌^◌, ◌<◌, ◌≤◌, List, ◌∷◌, refl, ap, ◌∙◌, sym, arith, drop, slice_index_or, Some, Ok}
 use Rattle.std.specs.List.{slice_get}
-use Rattle.std.proofs.lemmas.Option.{none-some, same_Some}
+use Rattle.std.proofs.lemmas.Option.{same_Some}
 use Rattle.page_set.specs.Pages.{PageMap}
 use Rattle.user_spec.specs.Words.{sum_of}
 use Rattle.user_spec.specs.User.{with_register}
@@ -18,7 +17,7 @@ use Rattle.user_ctx.specs.declared.op.Work.TheVariants as work
 use Rattle.user_ctx.specs.Stopping.{core}
 use Rattle.user_ctx.specs.declared.blocks.Gone.{Gone}
 use Rattle.user_ctx.specs.declared.blocks.Gone.TheVariants.{Next, Jumped, Away, Wrote, Left}
-use Rattle.user_ctx.specs.Ops.{work_of, place_at, IsJump, IsLeap, IsWork, IsOp}
+use Rattle.user_ctx.specs.Ops.{work_of, place_at, IsWork}
 use Rattle.user_ctx.specs.Windows.{IsWindow}
 use Rattle.user_ctx.proofs.Maps.{lt_or_le}
 use Rattle.user_ctx.proofs.Made.{got}

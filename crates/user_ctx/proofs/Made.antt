@@ -1,5 +1,5 @@
 -- The words of pages made ready, as words are learned, forgotten and stored to.
-use Rattle.std.proofs.Common.{◌≡◌, ◌≢◌, ◌⊎◌, inl, inr, ℕ, zero, suc, ◌+◌, ◌-◌, ◌*◌, ◌/◌, ◌%◌, ◌^◌, ◌<◌, ◌≤◌, List, [], ◌∷◌, refl, ap, ◌∙◌, sym, subst, arith, length, set, replicate, slice_index_or, min, max, Option, Some, None, Result, Ok, Err}
+use Rattle.std.proofs.Common.{◌≡◌, ◌≢◌, inl, inr, ℕ, zero, suc, ◌+◌, ◌-◌, ◌*◌, ◌/◌, ◌%◌, ◌^◌, ◌<◌, ◌≤◌, List, [], ◌∷◌, refl, ap, ◌∙◌, sym, subst, arith, length, set, replicate, slice_index_or, min, max, Some, Ok}
 use Rattle.std.specs.Prelude.{◌==◌, if◌then◌else◌}
 use Rattle.std.specs.List.{slice_get}
 use Rattle.std.proofs.lemmas.Bool.Decides.{eqb_tells}
@@ -14,8 +14,7 @@ use Rattle.user_ctx.specs.declared.op.Op.{Op}
 use Rattle.user_ctx.specs.declared.op.Op.TheVariants.{Unknown}
 use Rattle.user_ctx.specs.declared.window.Window.{Window}
 use Rattle.user_ctx.specs.Ops.{IsOpOf, IsOp}
-use Rattle.user_ctx.specs.Windows.{word_of, SameWords, SameBut, Stored, IsClear, IsWindow, IsWindowBut, Forgets, IsWatched, IsWatchedBut, IsReady, IsReadyBut}
-use Rattle.user_ctx.proofs.Maps.{lt_or_le}
+use Rattle.user_ctx.specs.Windows.{word_of, SameWords, SameBut, IsClear, IsWindow, IsWindowBut, Forgets, IsWatched, IsWatchedBut, IsReady, IsReadyBut}
 
 pub is_clear : (addr low end : ℕ) → addr < 2 ^ 32 → low < 2 ^ 32 → low ≤ end → end < 0xFFFFF001 → end - low + 6 ≤ ((addr + 3) % 2 ^ 32 + (2 ^ 32 - low)) % 2 ^ 32 → IsClear addr low end
 is_clear addr low end la ll le lt h = record { range = la; each = λ at above below aligned. (λ e. absurd (omega arith), λ e. absurd (omega arith)) }

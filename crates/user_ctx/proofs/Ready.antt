@@ -1,12 +1,10 @@
 -- Instructions made ready.
-use Rattle.std.proofs.Common.{◌≡◌, ℕ, ◌%◌, ◌<◌, ◌/◌, List, Bool, true, false, refl, ap, ◌∙◌, sym, arith}
-use Rattle.std.specs.Prelude.{◌==◌}
+use Rattle.std.proofs.Common.{◌≡◌, ℕ, Bool, true, false, refl, ap}
 use Rattle.user_spec.specs.Words.{sum_of}
 use Rattle.user_spec.specs.Instruction.{branch, jump, sets}
-use Rattle.user_spec.specs.declared.effect.Effect.{Effect}
 use Rattle.user_spec.specs.declared.effect.Effect.TheVariants as effect
 use Rattle.user_ctx.specs.declared.op.Work.TheVariants as work
-use Rattle.user_ctx.specs.Ops.{goes, IsJump, IsLeap, IsWork, IsTarget, place_at}
+use Rattle.user_ctx.specs.Ops.{goes, IsWork, IsTarget, place_at}
 
 taken : (rd value at distance to : ℕ) → IsTarget at distance to → jump rd value (sum_of at distance) ≡ effect.Sets rd value (place_at at to)
 taken rd value at distance to t = rw t.aligned (ap (effect.Sets rd value) t.place)

@@ -1,9 +1,7 @@
 -- Instructions made ready, and what they do.
 use Rattle.std.specs.Prelude.{ℕ, ◌+◌, ◌*◌, ◌/◌, ◌%◌, ◌≡◌, List, Bool, true, false, not, ◌==◌, bit_and, bit_or, bit_xor, nat_lt, nat_le}
 use Rattle.user_spec.specs.Words.{sum_of, difference_of, is_below, one_if, shifted_left, shifted_right, shifted_signed}
-use Rattle.user_spec.specs.declared.effect.Form.{Form}
 use Rattle.user_spec.specs.declared.effect.Form.TheVariants.{SignedByte, SignedHalf, Word, Byte, Half}
-use Rattle.user_spec.specs.declared.effect.Width.{Width}
 use Rattle.user_spec.specs.declared.effect.Width.TheVariants.{One, Two, Four}
 use Rattle.user_spec.specs.declared.effect.Effect.{Effect}
 use Rattle.user_spec.specs.declared.effect.Effect.TheVariants as effect

@@ -1,4 +1,4 @@
-use Rattle.std.proofs.Common.{◌∙◌, sym, refl, ap, arith, ◌<◌}
+use Rattle.std.proofs.Common.{◌∙◌, sym, refl, arith}
 use Rattle.user_ctx.proofs.Going.{sets, loads, stores, falls, goes_to, links, leaps, leaps_from, inside, not_slow}
 use Rattle.user_ctx.proofs.Stored.{same_words, clear_same, within_but}
 use Rattle.user_ctx.proofs.blocks.step_ready.Goals as goal
