@@ -1,12 +1,16 @@
 -- The worked ends: which runs are done, which are stuck, and where more is due.
-use Rattle.std.proofs.Common.{◌≡◌, ◌≢◌, ℕ, ◌==◌, ◌⊎◌, inl, inr, Bool, true, false, Option, Some, None, [], ◌∷◌, refl, sym, ap, ◌∙◌, subst, arith}
-use Rattle.run_tokens.specs.Ops.{Ops}
-use Rattle.run_tokens.specs.Rests.{Retry, RunOn, NextLine}
-use Rattle.run_tokens.proofs.Talk.{numbers_same}
+use Rattle.std.proofs.Common.{◌≡◌, ◌≢◌, ◌<◌, ◌≤◌, ℕ, zero, suc, ◌==◌, ◌⊎◌, inl, inr, Bool, true, false, Option, Some, None, [], ◌∷◌, refl, sym, ap, ◌∙◌, subst, arith}
+use Rattle.protocol.specs.Ops.{Ops}
+use Rattle.protocol.specs.Rests.{Retry, RunOn, NextLine, SendHalf}
+use Rattle.protocol.proofs.Talk.{numbers_same}
 use Rattle.run_laws.specs.Machine.{MachineState, empty}
 use Rattle.run_laws.specs.Schedule.{machine_at}
 use Rattle.run_laws.specs.Facts.{facts, is_held}
+use Rattle.protocol.specs.Does.{HalfDueTo}
 use Rattle.run_laws.specs.Due.{CanGoOn}
+use Rattle.run_laws.specs.Loads.{IsFree}
+use Rattle.run_laws.specs.GossipLaw.{HalfIsDue}
+use Rattle.run_laws.specs.Vectors.{exchanged}
 use Rattle.run_laws.specs.Ends.{Blocked, IsDone, IsStuck}
 use Rattle.run_laws.specs.SmallMachine.{Request, ReadCall, Calls, Program, named}
 use Rattle.run_laws.specs.Histories.{read, program, hello_script, hello, hello_events}
@@ -16,7 +20,7 @@ abbrev pub the : (O : Ops) → Option (MachineState O) → MachineState O
 the O None = empty O
 the O (Some m) = m
 
-first_or : (p : ℕ) → (p ≡ 1) ⊎ ((p == 1) ≡ false)
+pub first_or : (p : ℕ) → (p ≡ 1) ⊎ ((p == 1) ≡ false)
 first_or p = go (p == 1) refl
   where
     go : (b : Bool) → (p == 1) ≡ b → (p ≡ 1) ⊎ ((p == 1) ≡ false)
@@ -49,6 +53,7 @@ hello_unheld p = go (first_or p)
 pub hello_nothing : NothingDue hello (read hello_script hello_events) hello_end
 hello_nothing (Retry p) n d = let z : true ≡ false = sym d.1.held ∙ hello_unheld p in cc
 hello_nothing (RunOn p) n d = let z : true ≡ false = sym d.live ∙ hello_dead p in cc
+hello_nothing (SendHalf other) n d = let z : 2 ≤ 1 = d.many in omega (arith, z)
 hello_nothing NextLine n d = let z : None ≡ Some d.1.line = d.1.next in cc
 
 hello_done : IsDone hello (read hello_script hello_events) hello_end
@@ -85,6 +90,7 @@ reader_nothing (RunOn p) n d = go (first_or p)
     go : (p ≡ 1) ⊎ ((p == 1) ≡ false) → ⊥
     go (inl e) = let z : true ≡ false = sym (ap (λ (k : ℕ). (facts k (read reader_script reader_events)).waits) e) ∙ d.awake in cc
     go (inr e) = let z : true ≡ false = sym d.live ∙ (reader_other p e).1 in cc
+reader_nothing (SendHalf other) n d = let z : 2 ≤ 1 = d.many in omega (arith, z)
 reader_nothing NextLine n d = let z : None ≡ Some d.1.line = d.1.next in cc
 
 reader_blocked : Blocked reader reader_end 1 8
@@ -106,7 +112,11 @@ reader_over = (reader_nothing, reader_stuck, refl)
 
 -- the reader that is to move
 keeper_other : (p : ℕ) → (p == 1) ≡ false → (is_held (facts p (read keeper_script keeper_events)) ≡ false) × (keeper_end.kernel.alive p ≡ false)
-keeper_other p e = (rw e refl, rw e refl)
+keeper_other p e = go (p == 0) refl
+  where
+    go : (b : Bool) → (p == 0) ≡ b → (is_held (facts p (read keeper_script keeper_events)) ≡ false) × (keeper_end.kernel.alive p ≡ false)
+    go true f = (rw (e, f) refl, rw e refl)
+    go false f = (rw (e, f) refl, rw e refl)
 
 keeper_blocks : CanGoOn keeper 1 (read keeper_script keeper_events) keeper_end → ⊥
 keeper_blocks d = go d.ready
@@ -117,6 +127,24 @@ keeper_blocks d = go d.ready
     go : (keeper.serve keeper_end.kernel 1 d.requests.request ≢ None) ⊎ (keeper.lowest keeper_end.kernel 1 ≢ None) → ⊥
     go (inl f) = f (ap (keeper.serve keeper_end.kernel 1) is)
     go (inr f) = f refl
+
+-- each has told what it still has
+keeper_told : (n other : ℕ) → HalfIsDue keeper n other (read keeper_script keeper_events) keeper_end → ⊥
+keeper_told zero other d = go d.due
+  where
+    go : HalfDueTo keeper 0 other 1 3 ((p : ℕ) → IsFree keeper 0 p (read keeper_script keeper_events) keeper_end → ⊥) ((exchanged keeper (read keeper_script keeper_events)).nodes 0) → ⊥
+    go (inl x) = let z : 1 < 1 = x.0 in omega (arith, z)
+    go (inr (past, is, inl x)) = let z : 16 ≤ 0 = x in omega (arith, z)
+    go (inr (past, is, inr (none, inl x))) = x refl
+    go (inr (past, is, inr (none, inr x))) = x refl
+keeper_told (suc zero) other d = go d.due
+  where
+    go : HalfDueTo keeper 1 other 0 4 ((p : ℕ) → IsFree keeper 1 p (read keeper_script keeper_events) keeper_end → ⊥) ((exchanged keeper (read keeper_script keeper_events)).nodes 1) → ⊥
+    go (inl x) = let z : 1 < 1 = x.0 in omega (arith, z)
+    go (inr (past, is, inl x)) = let z : 16 ≤ 0 = x in omega (arith, z)
+    go (inr (past, is, inr (none, inl x))) = x refl
+    go (inr (past, is, inr (none, inr x))) = x refl
+keeper_told (suc (suc n)) other d = let z : suc (suc n) < 2 = d.here in omega (arith, z)
 
 pub keeper_nothing : NothingDue keeper (read keeper_script keeper_events) keeper_end
 keeper_nothing (Retry p) n d = go (first_or p)
@@ -129,6 +157,7 @@ keeper_nothing (RunOn p) n d = go (first_or p)
     go : (p ≡ 1) ⊎ ((p == 1) ≡ false) → ⊥
     go (inl e) = let z : true ≡ false = sym (ap (λ (k : ℕ). (facts k (read keeper_script keeper_events)).waits) e) ∙ d.awake in cc
     go (inr e) = let z : true ≡ false = sym d.live ∙ (keeper_other p e).1 in cc
+keeper_nothing (SendHalf other) n d = keeper_told n other d
 keeper_nothing NextLine n d = let z : None ≡ Some d.1.line = d.1.next in cc
 
 keeper_blocked : Blocked keeper keeper_end 1 8

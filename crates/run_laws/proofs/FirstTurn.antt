@@ -1,14 +1,15 @@
 -- A run of one turn, to show that the steps of the cluster have members.
 use Rattle.std.proofs.Common.{◌==◌, cond, Some, None, [], ◌∷◌, refl, arith}
-use Rattle.run_tokens.specs.Gossip.{no_gossip}
-use Rattle.run_tokens.specs.Deeds.{Run}
-use Rattle.run_tokens.specs.Notes.{Running, Turn, context, fresh, Slot, Local, no_progress}
-use Rattle.run_tokens.specs.Does.{hosts}
-use Rattle.run_tokens.specs.Cluster.{World, Goes, Starts, Reached}
-use Rattle.run_tokens.specs.Odd.{Timed}
-use Rattle.run_tokens.proofs.Process.{cond_off}
+use Rattle.protocol.specs.Gossip.{no_gossip}
+use Rattle.protocol.specs.Deeds.{Run}
+use Rattle.protocol.specs.Notes.{Running, Turn, context, fresh, Slot, Local, no_progress}
+use Rattle.protocol.specs.Does.{hosts}
+use Rattle.protocol.specs.Cluster.{World, Goes, Starts, Reached}
+use Rattle.protocol.specs.Odd.{Timed}
+use Rattle.protocol.proofs.Process.{cond_off}
 use Rattle.run_laws.specs.SmallMachine.{new_table, grown}
 use Rattle.run_laws.specs.Histories.{mover}
+use Rattle.protocol.proofs.Progress.{itself}
 
 abbrev empty_slot : Slot mover
 empty_slot = record { context = None; reserve = None; call = None }
@@ -28,7 +29,7 @@ home = record {
   kernel = grown new_table;
   slots = λ q. cond (q == 1) (hosts mover (Some (context mover (fresh mover (mover.loaded 0 1)) Running)) empty_slot) empty_slot;
   believed = λ q. cond (q == 1) (record { place = 0; hops = 0 }) (record { place = 0; hops = 0 });
-  progress = record { line = 1; done = 1; launched = 1 ∷ []; served = λ p. 0 };
+  progress = record { line = 2; done = 1; launched = 1 ∷ []; served = λ p. 0 };
   gossip = no_gossip;
 }
 
@@ -57,7 +58,7 @@ one_turn = (start, starts, goes)
           gossip = refl;
           believed = λ q. refl;
           words = [];
-          order = record { next = refl; enabled = λ z. cc; rises = omega arith; is = refl };
+          order = record { next = refl; enabled = λ z. cc; rises = omega arith; is = itself _ };
         };
       };
       elsewhere = λ m ne. cond_off m 0 home fresh_node ne;

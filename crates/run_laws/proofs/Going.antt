@@ -1,5 +1,5 @@
 -- Where a kind of turn applies such a turn can be made, in every run.
-use Rattle.std.proofs.Common.{◌≡◌, ◌≢◌, ℕ, zero, suc, ◌+◌, ◌<◌, ◌≤◌, ◌==◌, ◌⊎◌, inl, inr, Bool, true, false, cond, Option, Some, None, List, [], ◌∷◌, ◌++◌, refl, sym, ap, ◌∙◌, subst, arith}
+use Rattle.std.proofs.Common.{◌≡◌, ◌≢◌, ℕ, zero, suc, ◌+◌, ◌-◌, ◌<◌, ◌≤◌, ◌==◌, ◌⊎◌, inl, inr, Bool, true, false, cond, Option, Some, None, List, [], ◌∷◌, ◌++◌, refl, sym, ap, ◌∙◌, subst, arith}
 use Rattle.std.specs.Prelude.{ℤ, slice_get}
 use Rattle.std.proofs.lemmas.Bool.Decides.{leb_tells}
 use lib.Dec.{leb}
@@ -7,35 +7,37 @@ use Rattle.call_table.specs.declared.process.End.{End}
 use Rattle.node_event.specs.declared.script.Order.{Order}
 use Rattle.node_event.specs.declared.script.Order.TheVariants as order
 use Rattle.node_event.specs.declared.script.ScriptLine.{ScriptLine}
-use Rattle.run_tokens.specs.Ops.{Ops, Sound, Acted, typed, has_text}
-use Rattle.run_tokens.specs.Gossip.{one_step}
-use Rattle.run_tokens.specs.Deeds.{runs_before, feeds_before, Input, Text, Finish, Nothing, Manner, Did, Broke, Fell, Paused, Deed, Run, Kill, Bid, Unsent, Other, Steps, Sent, Heed, Held, Served, Got, Poked, Begin, Keep, Missed, Again, Allows, Denies, Depart, Stay, Land, Told, Refused, Closed, Strange}
-use Rattle.run_tokens.specs.Notes.{Progress, served_one, is_some, Call, Pause, Reply, Go, Post, letter, Turn, Body, context, fresh, Called, Running, Waiting, Slot, Local}
-use Rattle.run_tokens.specs.Spots.{Spot}
-use Rattle.run_tokens.specs.Home.{UnsentFor, First, Last, last, done_of, value_of, to_poke, both, pokes, born_at}
-use Rattle.run_tokens.specs.Does.{Does, ServedBy, EnabledHere, Ordered, Feeds, Makes, Quantum, hosts, holds, pokes_of}
-use Rattle.run_tokens.specs.Cluster.{World, for_link, Goes, events}
-use Rattle.run_tokens.specs.Rests.{Kind, Retry, RunOn, NextLine, Applies, HalfFirst, HalfDue}
-use Rattle.run_tokens.proofs.Talk.{numbers_same, numbers_other}
-use Rattle.run_tokens.proofs.Process.{cond_here, cond_off, call_tells}
-use Rattle.run_tokens.proofs.Stand.{Stands, Path}
+use Rattle.protocol.specs.Ops.{Ops, Sound, Acted, typed, has_text}
+use Rattle.protocol.specs.Gossip.{Entry, Gossip, one_step, Choice, Movable, told_places, gossip_after}
+use Rattle.protocol.specs.Deeds.{Chosen, runs_before, feeds_before, Input, Text, Finish, Nothing, Manner, Did, Broke, Fell, Paused, Deed, Run, Kill, Bid, Unsent, Other, Steps, Sent, Heed, Held, Served, Got, Poked, Begin, Keep, Missed, Again, Allows, Denies, Depart, Stay, Land, Told, Refused, Closed, Gossips, Strange}
+use Rattle.protocol.specs.Notes.{Progress, SameProgress, served_one, is_some, Call, Pause, Reply, Go, Half, Ask, Asking, Post, letter, Turn, Body, context, fresh, Called, Running, Waiting, Slot, Local}
+use Rattle.protocol.specs.Spots.{Spot}
+use Rattle.protocol.specs.Home.{UnsentFor, First, Last, last, done_of, value_of, to_poke, both, pokes, born_at}
+use Rattle.protocol.specs.Does.{Does, ServedBy, EnabledHere, Ordered, Feeds, Makes, Quantum, InUse, Loaded, CanMove, NoneRuns, HalfDueTo, seen, Talks, hosts, holds, pokes_of}
+use Rattle.protocol.specs.Cluster.{World, for_link, Goes, events}
+use Rattle.protocol.specs.Rests.{Kind, Retry, RunOn, NextLine, SendHalf, Applies}
+use Rattle.protocol.proofs.Talk.{numbers_same, numbers_other}
+use Rattle.protocol.proofs.Process.{cond_here, cond_off, call_tells}
+use Rattle.protocol.proofs.Stand.{Stands, Path}
 use Rattle.run_laws.specs.Going.{Able}
+use Rattle.run_laws.proofs.Here.{can_run, loaded, in_use, can_move}
 use Rattle.run_laws.proofs.Sleeps.{Sleeps, Since, path_sleeps}
+use Rattle.protocol.proofs.Progress.{itself}
 
 module _ (O : Ops) (S : Sound O) where
-  -- the last line that was carried out stands before the next one
+  -- the least line that may come next is the one after the last that was carried out
   abbrev pub LineAt : Progress → Type 0
-  LineAt g = ((g.done ≡ 0) × (g.line ≡ 0)) ⊎ ((k : ℕ) × (s : ScriptLine) × (g.done ≡ suc k) × (slice_get O.script k ≡ Some s) × (g.line ≡ s.line))
+  LineAt g = ((g.done ≡ 0) × (g.line ≡ 0)) ⊎ ((k : ℕ) × (s : ScriptLine) × (g.done ≡ suc k) × (slice_get O.script k ≡ Some s) × (g.line ≡ s.line + 1))
 
   line_same : (g h : Progress) → h ≡ g → LineAt g → LineAt h
   line_same g h e x = subst LineAt (sym e) x
 
-  line_served : (p : ℕ) (g h : Progress) → h ≡ served_one p g → LineAt g → LineAt h
-  line_served p g h e (inl x) = inl (ap (λ (k : Progress). k.done) e ∙ x.0, ap (λ (k : Progress). k.line) e ∙ x.1)
-  line_served p g h e (inr (k, s, x, y, z)) = inr (k, s, ap (λ (k : Progress). k.done) e ∙ x, y, ap (λ (k : Progress). k.line) e ∙ z)
+  line_served : (p : ℕ) (g h : Progress) → SameProgress h (served_one p g) → LineAt g → LineAt h
+  line_served p g h e (inl x) = inl (e.done ∙ x.0, e.line ∙ x.1)
+  line_served p g h e (inr (k, s, x, y, z)) = inr (k, s, e.done ∙ x, y, e.line ∙ z)
 
   line_ordered : (line : ℕ) (o : Order) (ps : List ℕ) (old new : Local O) → Ordered O line o ps old new → LineAt new.progress
-  line_ordered line o ps old new d = inr (old.progress.done, record { line = line; order = o }, ap (λ (k : Progress). k.done) d.is ∙ omega arith, d.next, ap (λ (k : Progress). k.line) d.is)
+  line_ordered line o ps old new d = inr (old.progress.done, record { line = line; order = o }, d.is.done ∙ omega arith, d.next, d.is.line)
 
   module _ (n : ℕ) (old : Local O) (t : Turn O) (new : Local O) where
     served_line : (manner : Manner) (p : ℕ) (number : Option ℕ) (value : Option ℤ) (child signal : Option ℕ) (ends : Option End) (more : Bool) (poked : List ℕ) → ServedBy O manner n p number value child signal ends more poked old t new → LineAt old.progress → LineAt new.progress
@@ -60,7 +62,7 @@ module _ (O : Ops) (S : Sound O) where
     line_next (Got p child ended kept) d x = line_same old.progress new.progress d.still.progress x
     line_next (Poked p true) d x = line_same old.progress new.progress d.still.progress x
     line_next (Poked p false) d x = line_same old.progress new.progress d.still.progress x
-    line_next (Begin p to line) d x = line_same old.progress new.progress d.still.progress x
+    line_next (Begin p to reason) d x = line_same old.progress new.progress d.still.progress x
     line_next (Keep p to line) d x = line_same old.progress new.progress d.still.progress x
     line_next (Missed p to line) d x = line_same old.progress new.progress d.still.progress x
     line_next (Again p to place line) d x = line_same old.progress new.progress d.still.progress x
@@ -73,6 +75,7 @@ module _ (O : Ops) (S : Sound O) where
     line_next (Refused p to why line) (inl d) x = line_same old.progress new.progress d.still.progress x
     line_next (Refused p to why line) (inr d) x = line_same old.progress new.progress d.still.progress x
     line_next (Closed line) d x = line_same old.progress new.progress d.still.progress x
+    line_next (Gossips heard other) d x = line_same old.progress new.progress d.still.progress x
     line_next (Strange p) d x = line_same old.progress new.progress d.still.progress x
 
   home_line : (w : World O) (t : Turn O) (v : World O) → Goes O w t v → LineAt (w.nodes 0).progress → LineAt (v.nodes 0).progress
@@ -86,8 +89,8 @@ module _ (O : Ops) (S : Sound O) where
   path_line [] sp w r = subst LineAt (sym ((r.0.nodes 0).home refl).progress) (inl (refl, refl))
   path_line (t ∷ h) sp v r = home_line r.0 t v r.4.goes (path_line h r.1 r.0 r.2)
 
-  rises : (A : Able O) (g : Progress) (s : ScriptLine) → LineAt g → slice_get O.script g.done ≡ Some s → g.line < s.line
-  rises A g s (inl x) e = let z = A.first s (ap (slice_get O.script) (sym x.0) ∙ e) in omega (arith, z, x.1)
+  rises : (A : Able O) (g : Progress) (s : ScriptLine) → LineAt g → slice_get O.script g.done ≡ Some s → g.line ≤ s.line
+  rises A g s (inl x) e = omega (arith, x.1)
   rises A g s (inr (k, a, x, y, l)) e = let z = A.rising k a s y (ap (slice_get O.script) (sym x) ∙ e) in omega (arith, z, l)
 
   -- a quantum of steps
@@ -135,28 +138,28 @@ module _ (O : Ops) (S : Sound O) where
     makes : (what : Deed) (posted : List (Post O)) (new : Local O) → new.clock ≡ old.clock + 1 → Does O what n old (turn what posted) new → Made
     makes what posted new clock does = (turn what posted, new, record { node = refl; below = below; stamp_is = omega arith; clock = clock; does = does }, refl, refl)
 
-    run_made : (p : ℕ) (b : Body O) → (old.slots p).context ≡ Some (context O b Running) → HalfFirst O old p ⊎ Made
-    run_made p b was = by_poke b.poked refl
+    run_made : (p : ℕ) (b : Body O) → (old.slots p).context ≡ Some (context O b Running) → (2 ≤ O.nodes → 16 ≤ old.gossip.steps → Made) → Made
+    run_made p b was half = by_poke b.poked refl
       where
-        by_steps : b.poked ≡ false → O.asks b.user ≡ None → Ran b.user → HalfFirst O old p ⊎ Made
+        by_steps : b.poked ≡ false → O.asks b.user ≡ None → Ran b.user → Made
         by_steps calm asks r = go (leb_tells 2 O.nodes) (leb_tells 16 old.gossip.steps)
           where
             steps : (2 ≤ O.nodes → old.gossip.steps < 16) → Ran b.user → Made
             steps few (k, v, went, bounds) = makes (Steps p k) [] (record { clock = old.clock + 1; kernel = old.kernel; slots = put p (hosts O (Some (context O (record b { user = v }) Running))); believed = old.believed; progress = old.progress; gossip = one_step old.gossip }) refl
                 (record { body = b; user = v; was = was; unpoked = calm; went = went; bounds = bounds; no_half = few; base = record { took = refl; posts = refl; slots = λ q. refl }; still = record { kernel = refl; believed = λ q. refl; progress = refl; gossip = refl } })
 
-            go : ((leb 2 O.nodes ≡ true) × (2 ≤ O.nodes)) ⊎ ((leb 2 O.nodes ≡ false) × (O.nodes < 2)) → ((leb 16 old.gossip.steps ≡ true) × (16 ≤ old.gossip.steps)) ⊎ ((leb 16 old.gossip.steps ≡ false) × (old.gossip.steps < 16)) → HalfFirst O old p ⊎ Made
-            go (inl x) (inl y) = inl (record { body = b; runs = was; unpoked = calm; steps = asks; others = x.1; due = y.1 })
-            go (inl x) (inr y) = inr (steps (λ z. y.1) r)
-            go (inr x) y = let few = x.1 in inr (steps (λ z. absurd (omega (arith, z, few))) r)
+            go : ((leb 2 O.nodes ≡ true) × (2 ≤ O.nodes)) ⊎ ((leb 2 O.nodes ≡ false) × (O.nodes < 2)) → ((leb 16 old.gossip.steps ≡ true) × (16 ≤ old.gossip.steps)) ⊎ ((leb 16 old.gossip.steps ≡ false) × (old.gossip.steps < 16)) → Made
+            go (inl x) (inl y) = half x.1 y.1
+            go (inl x) (inr y) = steps (λ z. y.1) r
+            go (inr x) y = let few = x.1 in steps (λ z. absurd (omega (arith, z, few))) r
 
-        by_asks : b.poked ≡ false → (o : Option O.Request) → O.asks b.user ≡ o → HalfFirst O old p ⊎ Made
+        by_asks : b.poked ≡ false → (o : Option O.Request) → O.asks b.user ≡ o → Made
         by_asks calm None e = by_steps calm e (steps_of A b.user e)
-        by_asks calm (Some r) e = inr (makes (Sent p (O.number r)) (letter O n 0 (old.clock + 1) (Call p r) ∷ []) (record { clock = old.clock + 1; kernel = old.kernel; slots = put p (hosts O (Some (context O b (Waiting false None)))); believed = old.believed; progress = old.progress; gossip = old.gossip }) refl
+        by_asks calm (Some r) e = (makes (Sent p (O.number r)) (letter O n 0 (old.clock + 1) (Call p r) ∷ []) (record { clock = old.clock + 1; kernel = old.kernel; slots = put p (hosts O (Some (context O b (Waiting false None)))); believed = old.believed; progress = old.progress; gossip = old.gossip }) refl
             (record { body = b; request = r; was = was; unpoked = calm; asks = e; number_is = refl; base = record { took = refl; posts = refl; slots = λ q. refl }; still = record { kernel = refl; believed = λ q. refl; progress = refl; gossip = refl } }))
 
-        by_poke : (k : Bool) → b.poked ≡ k → HalfFirst O old p ⊎ Made
-        by_poke true e = inr (makes (Heed p) (letter O n 0 (old.clock + 1) (Pause p (O.room b.user)) ∷ []) (record { clock = old.clock + 1; kernel = old.kernel; slots = put p (hosts O (Some (context O (record b { poked = false }) (Waiting true None)))); believed = old.believed; progress = old.progress; gossip = old.gossip }) refl
+        by_poke : (k : Bool) → b.poked ≡ k → Made
+        by_poke true e = (makes (Heed p) (letter O n 0 (old.clock + 1) (Pause p (O.room b.user)) ∷ []) (record { clock = old.clock + 1; kernel = old.kernel; slots = put p (hosts O (Some (context O (record b { poked = false }) (Waiting true None)))); believed = old.believed; progress = old.progress; gossip = old.gossip }) refl
             (record { body = b; was = was; poked = e; base = record { took = refl; posts = refl; slots = λ q. refl }; still = record { kernel = refl; believed = λ q. refl; progress = refl; gossip = refl } }))
         by_poke false e = by_asks e (O.asks b.user) refl
 
@@ -177,12 +180,12 @@ module _ (O : Ops) (S : Sound O) where
       did_made : (d : Acted O.Kernel O.Answer) → O.serve old.kernel p r ≡ Some d → Made
       did_made d e = let f : First O = record { kernel = d.kernel; answer = Some d.answer; child = d.child; raised = d.raised } in
           makes (served Did f) (letters f) (after f) refl
-          (inr (record { home = home; from = from; request = r; was = was; first = f; acts = (d, e, some, refl); answers = record { kernel = refl; value_is = refl; child_is = refl; signal_is = refl; end_is = refl; more_is = refl }; number_is = refl; tells = refl; base = record { took = refl; posts = refl; slots = λ q. refl }; gossip = refl; believed = λ q. refl; progress = refl }))
+          (inr (record { home = home; from = from; request = r; was = was; first = f; acts = (d, e, some, refl); answers = record { kernel = refl; value_is = refl; child_is = refl; signal_is = refl; end_is = refl; more_is = refl }; number_is = refl; tells = refl; base = record { took = refl; posts = refl; slots = λ q. refl }; gossip = refl; believed = λ q. refl; progress = itself _ }))
 
       broke_made : (s : ℕ) → O.lowest old.kernel p ≡ Some s → O.serve old.kernel p r ≡ None → Made
       broke_made s low e = let f : First O = record { kernel = old.kernel; answer = Some O.broken; child = None; raised = None } in
           makes (served Broke f) (letters f) (after f) refl
-          (inr (record { home = home; from = from; request = r; was = was; first = f; acts = (s, low, e, some, refl); answers = record { kernel = refl; value_is = refl; child_is = refl; signal_is = refl; end_is = refl; more_is = refl }; number_is = refl; tells = refl; base = record { took = refl; posts = refl; slots = λ q. refl }; gossip = refl; believed = λ q. refl; progress = refl }))
+          (inr (record { home = home; from = from; request = r; was = was; first = f; acts = (s, low, e, some, refl); answers = record { kernel = refl; value_is = refl; child_is = refl; signal_is = refl; end_is = refl; more_is = refl }; number_is = refl; tells = refl; base = record { took = refl; posts = refl; slots = λ q. refl }; gossip = refl; believed = λ q. refl; progress = itself _ }))
 
       retry_made : (O.serve old.kernel p r ≢ None) ⊎ (O.lowest old.kernel p ≢ None) → Made
       retry_made ready = by_serve (O.serve old.kernel p r) refl
@@ -196,23 +199,23 @@ module _ (O : Ops) (S : Sound O) where
           by_serve (Some d) e = did_made d e
 
     -- the next line is carried out
-    module _ (home : n ≡ 0) (line : ℕ) (higher : old.progress.line < line) where
+    module _ (home : n ≡ 0) (line : ℕ) (higher : old.progress.line ≤ line) where
       abbrev further : List ℕ → Progress
-      further ps = record { line = line; done = old.progress.done + 1; launched = ps; served = old.progress.served }
+      further ps = record { line = line + 1; done = old.progress.done + 1; launched = ps; served = old.progress.served }
 
       abbrev Next : Order → Type 0
       Next o = (slice_get O.script old.progress.done ≡ Some (record { line = line; order = o })) × EnabledHere O o old
 
       other_made : (o : Order) (input : Input) → Next o → has_text O input ≡ true → Feeds O input o → Made
       other_made o input x text suits = makes (Other line input) [] (record { clock = old.clock + 1; kernel = typed O input old.kernel; slots = old.slots; believed = old.believed; progress = further old.progress.launched; gossip = old.gossip }) refl
-          (record { home = home; text = text; kernel = refl; base = record { took = refl; posts = refl; slots = λ q. sym (Rattle.run_tokens.proofs.Process.cond_same (q == 0) (old.slots q)) }; gossip = refl; believed = λ q. refl; what = o; suits = suits; order = record { next = x.0; enabled = x.1; rises = higher; is = refl } })
+          (record { home = home; text = text; kernel = refl; base = record { took = refl; posts = refl; slots = λ q. sym (Rattle.protocol.proofs.Process.cond_same (q == 0) (old.slots q)) }; gossip = refl; believed = λ q. refl; what = o; suits = suits; order = record { next = x.0; enabled = x.1; rises = higher; is = itself _ } })
 
       move_made : (p to : ℕ) → Next (order.Move p to) → Made
       move_made p to x = by_live (O.live old.kernel p) refl
         where
           unsent : (never : Bool) → UnsentFor O never old.kernel p → Made
           unsent never why = makes (Unsent line p never) [] (record { clock = old.clock + 1; kernel = old.kernel; slots = old.slots; believed = old.believed; progress = further old.progress.launched; gossip = old.gossip }) refl
-              (record { home = home; why = why; base = record { took = refl; posts = refl; slots = λ q. sym (Rattle.run_tokens.proofs.Process.cond_same (q == p) (old.slots q)) }; kernel = refl; gossip = refl; believed = λ q. refl; to = to; order = record { next = x.0; enabled = x.1; rises = higher; is = refl } })
+              (record { home = home; why = why; base = record { took = refl; posts = refl; slots = λ q. sym (Rattle.protocol.proofs.Process.cond_same (q == p) (old.slots q)) }; kernel = refl; gossip = refl; believed = λ q. refl; to = to; order = record { next = x.0; enabled = x.1; rises = higher; is = itself _ } })
 
           by_given : O.live old.kernel p ≡ false → ((leb 1 p ≡ true) × (1 ≤ p)) ⊎ ((leb 1 p ≡ false) × (p < 1)) → ((leb p (O.count old.kernel) ≡ true) × (p ≤ O.count old.kernel)) ⊎ ((leb p (O.count old.kernel) ≡ false) × (O.count old.kernel < p)) → Made
           by_given dead (inl a) (inl b) = unsent false (record { given = (a.1, b.1); dead = dead })
@@ -221,7 +224,7 @@ module _ (O : Ops) (S : Sound O) where
 
           by_live : (b : Bool) → O.live old.kernel p ≡ b → Made
           by_live true e = makes (Bid line p to) (letter O 0 (old.believed p).place (old.clock + 1) (Go p to (old.believed p).hops line) ∷ []) (record { clock = old.clock + 1; kernel = old.kernel; slots = old.slots; believed = old.believed; progress = further old.progress.launched; gossip = old.gossip }) refl
-              (record { home = home; live = e; base = record { took = refl; posts = refl; slots = λ q. sym (Rattle.run_tokens.proofs.Process.cond_same (q == p) (old.slots q)) }; kernel = refl; gossip = refl; believed = λ q. refl; order = record { next = x.0; enabled = x.1; rises = higher; is = refl } })
+              (record { home = home; live = e; base = record { took = refl; posts = refl; slots = λ q. sym (Rattle.protocol.proofs.Process.cond_same (q == p) (old.slots q)) }; kernel = refl; gossip = refl; believed = λ q. refl; order = record { next = x.0; enabled = x.1; rises = higher; is = itself _ } })
           by_live false e = by_given e (leb_tells 1 p) (leb_tells p (O.count old.kernel))
 
       kill_made : (p s : ℕ) → Next (order.Kill p s) → Made
@@ -229,7 +232,7 @@ module _ (O : Ops) (S : Sound O) where
           let kernel : O.Kernel = O.raise old.kernel p s in
           let poked : List ℕ = both (to_poke O kernel old.slots (cond (O.hit old.kernel p s) (Some p) None)) None in
           makes (Kill line p s poked) (pokes O (old.clock + 1) old.believed poked) (record { clock = old.clock + 1; kernel = kernel; slots = old.slots; believed = old.believed; progress = further old.progress.launched; gossip = old.gossip }) refl
-          (record { home = home; signal_is = A.signal old.progress.done _ x.0 p s refl; kernel = refl; tells = refl; base = record { took = refl; posts = refl; slots = λ q. sym (Rattle.run_tokens.proofs.Process.cond_same (q == p) (old.slots q)) }; gossip = refl; believed = λ q. refl; order = record { next = x.0; enabled = x.1; rises = higher; is = refl } })
+          (record { home = home; signal_is = A.signal old.progress.done _ x.0 p s refl; kernel = refl; tells = refl; base = record { took = refl; posts = refl; slots = λ q. sym (Rattle.protocol.proofs.Process.cond_same (q == p) (old.slots q)) }; gossip = refl; believed = λ q. refl; order = record { next = x.0; enabled = x.1; rises = higher; is = itself _ } })
 
       run_line : (words : List (List ℕ)) → Next (order.Run words) → Made
       run_line words x =
@@ -237,7 +240,7 @@ module _ (O : Ops) (S : Sound O) where
           let p : ℕ = O.count old.kernel + 1 in
           let i : ℕ = runs_before line O.script in
           makes (Run line i p) [] (record { clock = old.clock + 1; kernel = l.0; slots = put p (hosts O (Some (context O (fresh O (O.loaded i p)) Running))); believed = λ q. cond (q == p) (record { place = 0; hops = 0 }) (old.believed q); progress = further (p ∷ old.progress.launched); gossip = old.gossip }) refl
-          (record { home = home; image = A.image old.progress.done _ x.0 words refl; launched = l.1; next = refl; base = record { took = refl; posts = refl; slots = λ q. refl }; gossip = refl; believed = λ q. refl; words = words; order = record { next = x.0; enabled = x.1; rises = higher; is = refl } })
+          (record { home = home; image = A.image old.progress.done _ x.0 words refl; launched = l.1; next = refl; base = record { took = refl; posts = refl; slots = λ q. refl }; gossip = refl; believed = λ q. refl; words = words; order = record { next = x.0; enabled = x.1; rises = higher; is = itself _ } })
 
       line_made : (o : Order) → Next o → Made
       line_made (order.Run words) x = run_line words x
@@ -258,22 +261,80 @@ module _ (O : Ops) (S : Sound O) where
       makes = subst (λ (k : ℕ). Makes O k (w.nodes k) t (cond (k == n) new (w.nodes k))) (sym is) (subst (Makes O n (w.nodes n) t) (sym (cond_here n new (w.nodes n))) makes);
       elsewhere = λ m ne. cond_off m n new (w.nodes m) (λ z. ne (z ∙ sym is));
       rest = w.links;
-      takes = λ a b. ap (λ (o : Option (Post O)). Rattle.run_tokens.specs.Cluster.at_front O o a b ++ w.links a b) (sym off);
+      takes = λ a b. ap (λ (o : Option (Post O)). Rattle.protocol.specs.Cluster.at_front O o a b ++ w.links a b) (sym off);
       posts = λ a b. refl;
     },
   )
 
-  pub can_go : (h : List (Turn O)) (sp : ℕ → Spot O) (w : World O) → Path O S h sp w → Stands O S sp w → Able O → (k : Kind) (n : ℕ) → n < O.nodes → Applies O k n (w.nodes n) → HalfDue O k (w.nodes n) ⊎ ((t : Turn O) × (v : World O) × Goes O w t v × (t.taken ≡ None) × (t.event.node ≡ n))
+  -- a half that is due can be sent
+  module _ (n : ℕ) (old : Local O) (below : n < O.nodes) (other load used : ℕ) (loaded : Loaded O old load) (in_use : InUse O old used) (movable : List Movable) (can_move : CanMove O old movable) (many : 2 ≤ O.nodes) (due : HalfDueTo O n other load (O.cap - used) (NoneRuns O old) old.gossip) where
+    abbrev own : Entry
+    own = record { node = n; load = load; free = O.cap - used; stamp = old.clock + 1 }
+
+    abbrev gossip : Gossip
+    gossip = gossip_after false (record { node = n; load = load; free = O.cap - used; stamp = old.clock + 1 }) [] old.gossip
+
+    abbrev told : List (Option Entry)
+    told = told_places (record { node = n; load = load; free = O.cap - used; stamp = old.clock + 1 }) old.gossip
+
+    abbrev Half_made : Type 0
+    Half_made = (t : Turn O) × (new : Local O) × Makes O n old t new × (t.taken ≡ None) × (t.event.node ≡ n)
+
+    abbrev pub talks : (chosen : Option Choice) (t : Turn O) (new : Local O) → t.event.stamp ≡ old.clock + 1 → new.gossip ≡ gossip → O.Chooses (seen O n own gossip.vector movable) chosen → Talks O false n other chosen old t new
+    talks chosen t new stamp is chooses = record {
+      own = own;
+      places = told;
+      stamp = 0;
+      used = used;
+      in_use = in_use;
+      loaded = loaded;
+      own_is = λ i. record { node = n; load = load; free = O.cap - used; stamp = (sym stamp) i };
+      sends = (many, due, refl);
+      gossip = is;
+      movable = movable;
+      can_move = can_move;
+      chooses = subst (λ (g : Gossip). O.Chooses (seen O n own g.vector movable) chosen) (sym is) chooses;
+    }
+
+    send_made : (chosen : Option Choice) → O.Chooses (seen O n own gossip.vector movable) chosen → Half_made
+    send_made None chooses =
+        let t : Turn O = record { event = record { stamp = old.clock + 1; node = n; what = Gossips false other }; taken = None; posted = letter O n other (old.clock + 1) (Half told) ∷ [] } in
+        let new : Local O = record { clock = old.clock + 1; kernel = old.kernel; slots = old.slots; believed = old.believed; progress = old.progress; gossip = gossip } in
+        (t, new, record { node = refl; below = below; stamp_is = omega arith; clock = refl; does = record { talks = talks None t new refl refl chooses; base = record { took = refl; posts = refl; slots = λ q. sym (Rattle.protocol.proofs.Process.cond_same (q == 0) (old.slots q)) }; still = record { kernel = refl; believed = λ q. refl; progress = refl } } }, refl, refl)
+    send_made (Some c) chooses =
+        let x = S.chosen _ c chooses in
+        let y = can_run O old movable can_move c.pid x.0 in
+        let t : Turn O = record { event = record { stamp = old.clock + 1; node = n; what = Begin c.pid c.to (Chosen false other) }; taken = None; posted = letter O n other (old.clock + 1) (Half told) ∷ letter O n c.to (old.clock + 1) (Ask c.pid (O.pages y.0.user)) ∷ [] } in
+        let new : Local O = record { clock = old.clock + 1; kernel = old.kernel; slots = λ q. cond (q == c.pid) (hosts O (Some (context O y.0 (Asking c.to None))) (old.slots q)) (old.slots q); believed = old.believed; progress = old.progress; gossip = gossip } in
+        (t, new, record { node = refl; below = below; stamp_is = omega arith; clock = refl; does = record { body = y.0; was = y.1; away = x.2; why = talks (Some c) t new refl refl chooses; base = record { took = refl; posts = refl; slots = λ q. refl }; still = record { kernel = refl; believed = λ q. refl; progress = refl } } }, refl, refl)
+
+    half_made : Half_made
+    half_made = let a = S.answers (seen O n own gossip.vector movable) in send_made a.0 a.1
+
+  -- after sixteen quanta of steps one is due
+  late_due : (n load free : ℕ) (P : Type 0) (g : Gossip) → 16 ≤ g.steps → (other : ℕ) × HalfDueTo O n other load free P g
+  late_due n load free P g late = go (leb_tells (O.nodes - 1) g.sent)
+    where
+      go : ((leb (O.nodes - 1) g.sent ≡ true) × (O.nodes - 1 ≤ g.sent)) ⊎ ((leb (O.nodes - 1) g.sent ≡ false) × (g.sent < O.nodes - 1)) → (other : ℕ) × HalfDueTo O n other load free P g
+      go (inl x) = (_, inr (x.1, refl, inl late))
+      go (inr x) = (_, inl (x.1, refl))
+
+  pub can_go : (h : List (Turn O)) (sp : ℕ → Spot O) (w : World O) → Path O S h sp w → Stands O S sp w → Able O → (k : Kind) (n : ℕ) → n < O.nodes → Applies O k n (w.nodes n) → (t : Turn O) × (v : World O) × Goes O w t v × (t.taken ≡ None) × (t.event.node ≡ n)
   can_go h sp w path st A kind n below x = go (made kind x)
     where
       no_fault : (p : ℕ) (c : Called O) → n ≡ 0 → ((w.nodes n).slots p).call ≡ Some c → O.number c.request ≢ 0
       no_fault p c home was = let y = call_tells O p (sp p) w (st.at p) n home c was in (subst (Sleeps O S p (Since O S (events O h) p)) y.2 (path_sleeps O S h sp w path p)).2
 
-      made : (k : Kind) → Applies O k n (w.nodes n) → HalfDue O k (w.nodes n) ⊎ Made A n (w.nodes n) below
-      made (Retry p) (home, d) = inr (retry_made A n (w.nodes n) below home p d.call.from d.call.request d.held (no_fault p d.call home d.held) d.ready)
-      made (RunOn p) (b, was) = run_made A n (w.nodes n) below p b was
-      made NextLine (home, d) = inr (line_made A n (w.nodes n) below home d.line.line (rises A (w.nodes n).progress d.line (subst (λ (k : ℕ). LineAt (w.nodes k).progress) (sym home) (path_line h sp w path)) d.next) d.line.order (d.next, d.enabled))
+      late : 2 ≤ O.nodes → 16 ≤ (w.nodes n).gossip.steps → Made A n (w.nodes n) below
+      late many steps =
+          let d = late_due n _ _ (NoneRuns O (w.nodes n)) (w.nodes n).gossip steps in
+          half_made n (w.nodes n) below d.0 _ _ (loaded O S sp w st n) (in_use O S sp w st n) _ (can_move O S sp w st n) many d.1
 
-      go : HalfDue O kind (w.nodes n) ⊎ Made A n (w.nodes n) below → HalfDue O kind (w.nodes n) ⊎ ((t : Turn O) × (v : World O) × Goes O w t v × (t.taken ≡ None) × (t.event.node ≡ n))
-      go (inl half) = inl half
-      go (inr (t, new, makes, off, is)) = let v = whole w n t new makes off is in inr (t, v.0, v.1, off, is)
+      made : (k : Kind) → Applies O k n (w.nodes n) → Made A n (w.nodes n) below
+      made (Retry p) (home, d) = retry_made A n (w.nodes n) below home p d.call.from d.call.request d.held (no_fault p d.call home d.held) d.ready
+      made (RunOn p) (b, was) = run_made A n (w.nodes n) below p b was late
+      made NextLine (home, d) = line_made A n (w.nodes n) below home d.line.line (rises A (w.nodes n).progress d.line (subst (λ (k : ℕ). LineAt (w.nodes k).progress) (sym home) (path_line h sp w path)) d.next) d.line.order (d.next, d.enabled)
+      made (SendHalf other) d = half_made n (w.nodes n) below other d.load d.used d.loaded d.in_use _ (can_move O S sp w st n) d.many d.due
+
+      go : Made A n (w.nodes n) below → (t : Turn O) × (v : World O) × Goes O w t v × (t.taken ≡ None) × (t.event.node ≡ n)
+      go (t, new, makes, off, is) = let v = whole w n t new makes off is in (t, v.0, v.1, off, is)

@@ -1,16 +1,16 @@
 -- The laws hold of every run.
 use Rattle.std.proofs.Common.{◌≡◌, inl, inr, ◌<◌, ◌≢◌, ℕ, Bool, true, false, not, cond, Option, Some, None, List, [], ◌∷◌, ◌++◌, refl, sym, ap, ◌∙◌, subst}
 use Rattle.std.specs.Prelude.{ℤ}
-use Rattle.run_tokens.specs.Ops.{Ops, Sound}
-use Rattle.run_tokens.specs.Deeds.{Manner, Did, Broke, Fell, Paused, KeptTold, Deed, Run, Kill, Bid, Unsent, Other, Steps, Sent, Heed, Held, Served, Got, Poked, Begin, Keep, Missed, Again, Allows, Denies, Depart, Stay, Land, Told, Refused, Closed, Strange, pid_of, child_of}
-use Rattle.run_tokens.specs.Notes.{Turn, Body, Kept, Local, Slot, is_some}
-use Rattle.run_tokens.specs.Spots.{Spot, Nowhere, Runs, Calls, Holds, Pauses, Answered, Asks, Granted, Denied, Travels, InReply, Ended, call_at}
-use Rattle.run_tokens.specs.Home.{First, last, last_by, Acts, unheld}
-use Rattle.run_tokens.specs.Does.{kept_told}
-use Rattle.run_tokens.specs.Cluster.{World}
-use Rattle.run_tokens.specs.Needs.{Needs, ServedSo, ServedCall, asked, AwakeAt, AsleepAt, AwayFrom, FreeAt, alive, Right}
+use Rattle.protocol.specs.Ops.{Ops, Sound}
+use Rattle.protocol.specs.Deeds.{Manner, Did, Broke, Fell, Paused, KeptTold, Deed, Run, Kill, Bid, Unsent, Other, Steps, Sent, Heed, Held, Served, Got, Poked, Begin, Keep, Missed, Again, Allows, Denies, Depart, Stay, Land, Told, Refused, Closed, Gossips, Strange, pid_of, child_of}
+use Rattle.protocol.specs.Notes.{Turn, Body, Kept, Local, Slot, is_some}
+use Rattle.protocol.specs.Spots.{Spot, Nowhere, Runs, Calls, Holds, Pauses, Answered, Asks, Granted, Denied, Travels, InReply, Ended, call_at}
+use Rattle.protocol.specs.Home.{First, last, last_by, Acts, unheld}
+use Rattle.protocol.specs.Does.{kept_told}
+use Rattle.protocol.specs.Cluster.{World}
+use Rattle.protocol.specs.Needs.{Needs, ServedSo, ServedCall, asked, AwakeAt, AsleepAt, AwayFrom, FreeAt, alive, Right}
 use Rattle.run_laws.specs.Machine.{MachineState}
-use Rattle.run_tokens.specs.Cluster.{events}
+use Rattle.protocol.specs.Cluster.{events}
 use Rattle.run_laws.specs.Facts.{Place, Node, Facts, facts, is_held}
 use Rattle.run_laws.specs.PlaceLaw.{PlaceAt}
 use Rattle.run_laws.specs.FreezeLaw.{FreezeAt, kept_target, KeptWord}
@@ -21,7 +21,7 @@ use Rattle.run_laws.specs.PokeLaw.{PokeAt, in_order, to_wake}
 use Rattle.run_laws.specs.SilentLaw.{SilentAt, SilentLaw}
 use Rattle.run_laws.proofs.Silent.{silent_law}
 use Rattle.run_laws.proofs.Poking.{wakes, wakes_any, call_raised, pause_raised}
-use Rattle.run_tokens.proofs.Alive.{asked_alive}
+use Rattle.protocol.proofs.Alive.{asked_alive}
 use Rattle.std.proofs.lemmas.List.{append-nil}
 use Rattle.run_laws.specs.ScriptLaw.{ScriptAt}
 use Rattle.run_laws.specs.NewsLaw.{NewsLaw}
@@ -29,18 +29,21 @@ use Rattle.run_laws.proofs.Again.{path_again}
 use Rattle.run_laws.specs.Lawful.{Lawful}
 use Rattle.run_laws.specs.Machine.{machine_steps, listed, raised_in, raised_by, Raise}
 use Rattle.run_laws.specs.Schedule.{call_step, take_step, machine_at, With, told_so, told_by}
-use Rattle.run_tokens.specs.Home.{NeverGiven}
+use Rattle.protocol.specs.Home.{NeverGiven}
 use Rattle.run_laws.proofs.Plays.{at_replay, call_plays, with_some}
 use Rattle.run_laws.proofs.Script.{script_next}
 use Rattle.run_laws.proofs.Held.{held_same}
-use Rattle.run_tokens.proofs.Coupling.{at_own}
+use Rattle.protocol.proofs.Coupling.{at_own}
 use Rattle.run_laws.specs.OnePlace.{OnePlace, PlacedAt}
-use Rattle.run_tokens.proofs.Talk.{same_numbers}
-use Rattle.run_tokens.proofs.Stand.{Stands, Step, Path, child_apart}
+use Rattle.protocol.proofs.Talk.{same_numbers}
+use Rattle.protocol.proofs.Stand.{Stands, Step, Path, child_apart}
 use Rattle.run_laws.proofs.Facts.{kept_to, facts_of, path_tells}
 use Rattle.run_laws.proofs.Replay.{user_of, first_plays}
 use Rattle.run_laws.proofs.Played.{Agrees, path_played}
 use Rattle.call_table.specs.declared.process.End.{End}
+use Rattle.run_laws.specs.GossipLaw.{GossipLaw}
+use Rattle.run_laws.specs.ChoiceLaw.{ChoiceLaw}
+use Rattle.run_laws.proofs.GossipLaws.{path_gossip, path_choice}
 
 node_same : (a b : ℕ) → Node a ∷ [] ≡ Node b ∷ [] → a ≡ b
 node_same a b e = cc
@@ -139,7 +142,7 @@ module _ (O : Ops) (S : Sound O) where
     place_law (Served p manner number value child signal ends more poked) d = tt
     place_law (Got p child ended kept) d = placed _ d.is.was
     place_law (Poked p used) d = tt
-    place_law (Begin p to line) d = placed _ d.is.was
+    place_law (Begin p to reason) d = placed _ d.is.was
     place_law (Keep p to line) d = ap (λ (k : Facts). k.places) tells ∙ (free_waits n s d.is.free).0
     place_law (Missed p to line) d = λ e. away_places n s d.is.away (sym (ap (λ (k : Facts). k.places) tells) ∙ e)
     place_law (Again p to place line) d = tt
@@ -151,6 +154,7 @@ module _ (O : Ops) (S : Sound O) where
     place_law (Told p at source hops line poked) d = tt
     place_law (Refused p to why line) d = tt
     place_law (Closed line) d = tt
+    place_law (Gossips heard other) d = tt
     place_law (Strange p) d = absurd d
 
     got_word : (k : Option Kept) (e : Bool) → KeptWord (kept_told O k e) e
@@ -174,7 +178,7 @@ module _ (O : Ops) (S : Sound O) where
     freeze_law (Served p manner number value child signal ends more poked) d = tt
     freeze_law (Got p child ended kept) d = (waited _ d.is.was, ap kept_target d.is.kept_is ∙ (got_target d.is.keeps d.is.done.ended ∙ sym (ap (λ (k : Facts). k.kept) (tells ∙ ap (facts_of O S) d.is.was))), subst (λ (x : Option KeptTold). KeptWord x ended) (sym d.is.kept_is) (subst (λ (x : Bool). KeptWord (kept_told O d.is.keeps d.is.done.ended) x) (sym d.is.ended_is) (got_word d.is.keeps d.is.done.ended)))
     freeze_law (Poked p used) d = tt
-    freeze_law (Begin p to line) d = (waited _ d.is.was, asked_so _ d.is.was)
+    freeze_law (Begin p to reason) d = (waited _ d.is.was, asked_so _ d.is.was)
     freeze_law (Keep p to line) d = (ap (λ (k : Facts). k.waits) tells ∙ (free_waits n s d.is.free).1, ap (λ (k : Facts). k.kept) tells ∙ (free_waits n s d.is.free).2)
     freeze_law (Missed p to line) d = tt
     freeze_law (Again p to place line) d = tt
@@ -186,6 +190,7 @@ module _ (O : Ops) (S : Sound O) where
     freeze_law (Told p at source hops line poked) d = tt
     freeze_law (Refused p to why line) d = tt
     freeze_law (Closed line) d = tt
+    freeze_law (Gossips heard other) d = tt
     freeze_law (Strange p) d = tt
 
     pub heed_law : (what : Deed) → Needs O what n old new s r → HeedAt what n f
@@ -202,7 +207,7 @@ module _ (O : Ops) (S : Sound O) where
     heed_law (Got p child ended kept) d = tt
     heed_law (Poked p true) d = (ap (λ (k : Facts). k.places) tells ∙ (awake_places n s d.is.awake).0, ap (λ (k : Facts). k.waits) tells ∙ (awake_places n s d.is.awake).1)
     heed_law (Poked p false) d = λ (e, g). asleep_places n s d.is.asleep (sym (ap (λ (k : Facts). k.places) tells) ∙ e) (sym (ap (λ (k : Facts). k.waits) tells) ∙ g)
-    heed_law (Begin p to line) d = tt
+    heed_law (Begin p to reason) d = tt
     heed_law (Keep p to line) d = tt
     heed_law (Missed p to line) d = tt
     heed_law (Again p to place line) d = tt
@@ -214,6 +219,7 @@ module _ (O : Ops) (S : Sound O) where
     heed_law (Told p at source hops line poked) d = tt
     heed_law (Refused p to why line) d = tt
     heed_law (Closed line) d = tt
+    heed_law (Gossips heard other) d = tt
     heed_law (Strange p) d = tt
 
   last_signal : (k : O.Kernel) (p : ℕ) (room : Bool) → (last O k p room).signal ≡ O.lowest k p
@@ -281,7 +287,7 @@ module _ (O : Ops) (S : Sound O) where
     once_law (Served p manner number value child signal ends more poked) d user right user2 reply = so_once manner p number value child signal ends more poked d user right reply
     once_law (Got p child ended kept) d user right user2 reply = (let t = tells ∙ ap (facts_of O S) d.is.was in (ap (λ (x : Facts). x.waits) t, ap (λ (x : Facts). x.served) t, d.is.child_is ∙ sym (ap (λ (x : Facts). x.child) t)))
     once_law (Poked p used) d user right user2 reply = tt
-    once_law (Begin p to line) d user right user2 reply = tt
+    once_law (Begin p to reason) d user right user2 reply = tt
     once_law (Keep p to line) d user right user2 reply = tt
     once_law (Missed p to line) d user right user2 reply = tt
     once_law (Again p to place line) d user right user2 reply = tt
@@ -293,6 +299,7 @@ module _ (O : Ops) (S : Sound O) where
     once_law (Told p at source hops line poked) d user right user2 reply = tt
     once_law (Refused p to why line) d user right user2 reply = tt
     once_law (Closed line) d user right user2 reply = tt
+    once_law (Gossips heard other) d user right user2 reply = tt
     once_law (Strange p) d user right user2 reply = tt
 
     serve_signal : (manner : Manner) (p : ℕ) (number : Option ℕ) (value : Option ℤ) (child signal : Option ℕ) (ends : Option End) (more : Bool) (poked : List ℕ) → ServedCall O n p manner number value child signal ends more poked old new s r → ((c : ℕ) → child ≡ Some c → c ≢ p) → m.users p ≡ user_of O S s → O.live m.kernel p ≡ alive O s → Right O s
@@ -330,7 +337,7 @@ module _ (O : Ops) (S : Sound O) where
     signal_law (Served p manner number value child signal ends more poked) d apart user live right = so_signal manner p number value child signal ends more poked d apart user live right
     signal_law (Got p child ended kept) d apart user live right = tt
     signal_law (Poked p used) d apart user live right = tt
-    signal_law (Begin p to line) d apart user live right = tt
+    signal_law (Begin p to reason) d apart user live right = tt
     signal_law (Keep p to line) d apart user live right = tt
     signal_law (Missed p to line) d apart user live right = tt
     signal_law (Again p to place line) d apart user live right = tt
@@ -342,6 +349,7 @@ module _ (O : Ops) (S : Sound O) where
     signal_law (Told p at source hops line poked) d apart user live right = tt
     signal_law (Refused p to why line) d apart user live right = tt
     signal_law (Closed line) d apart user live right = tt
+    signal_law (Gossips heard other) d apart user live right = tt
     signal_law (Strange p) d apart user live right = tt
 
     module _ (held : ℕ → Bool) (holds : n ≡ 0 → (q : ℕ) → unheld O (old.slots q).call ≡ not (held q)) where
@@ -383,7 +391,7 @@ module _ (O : Ops) (S : Sound O) where
       poke_law (Served p manner number value child signal ends more poked) d apart user live right = so_poke manner p number value child signal ends more poked d apart user live right
       poke_law (Got p child ended kept) d apart user live right = tt
       poke_law (Poked p used) d apart user live right = tt
-      poke_law (Begin p to line) d apart user live right = tt
+      poke_law (Begin p to reason) d apart user live right = tt
       poke_law (Keep p to line) d apart user live right = tt
       poke_law (Missed p to line) d apart user live right = tt
       poke_law (Again p to place line) d apart user live right = tt
@@ -395,6 +403,7 @@ module _ (O : Ops) (S : Sound O) where
       poke_law (Told p at source hops line poked) d apart user live right = d.is.why.1 ∙ ap (λ (k : O.Kernel). is_some (O.lowest k p)) (before d.is.why.0)
       poke_law (Refused p to why line) d apart user live right = tt
       poke_law (Closed line) d apart user live right = tt
+      poke_law (Gossips heard other) d apart user live right = tt
       poke_law (Strange p) d apart user live right = tt
 
   some_machine : (m m2 : MachineState O) → Some m ≡ Some m2 → m ≡ m2
@@ -444,9 +453,11 @@ module _ (O : Ops) (S : Sound O) where
     with_both : (P : MachineState O → MachineState O → Type 0) → P m m2 → With (machine_at O (events O h)) (λ x. With (machine_at O (t.event ∷ events O h)) (λ y. P x y))
     with_both P x = with_some _ m _ at_before (with_some _ m2 _ at_then x)
 
-    lawful_next : Lawful O (events O h) → ScriptAt O t.event (events O h) → NewsLaw O (t.event ∷ events O h) → Lawful O (t.event ∷ events O h)
-    lawful_next all script news =
+    lawful_next : Lawful O (events O h) → ScriptAt O t.event (events O h) → NewsLaw O (t.event ∷ events O h) → GossipLaw O (t.event ∷ events O h) → ChoiceLaw O (t.event ∷ events O h) → Lawful O (t.event ∷ events O h)
+    lawful_next all script news gossip choice =
         record {
+          gossip = gossip;
+          choice = choice;
           script = (script, all.script);
           news = news;
           place = (place_law n (w.nodes n) (v.nodes n) (sp p) st.own f tells t.event.what st.needs, all.place);
@@ -468,11 +479,11 @@ module _ (O : Ops) (S : Sound O) where
       silent_next h r.0 t v r.1 sp r.2 r.3 r.4 before.machine before.agrees then.machine then.agrees (path_silent h r.1 r.0 r.2)
 
   pub path_lawful : (h : List (Turn O)) (sp : ℕ → Spot O) (w : World O) → Path O S h sp w → Lawful O (events O h)
-  path_lawful [] sp w r = record { script = tt; place = tt; news = tt; freeze = tt; once = tt; signal = tt; poke = tt; heed = tt }
+  path_lawful [] sp w r = record { script = tt; place = tt; news = tt; freeze = tt; once = tt; signal = tt; poke = tt; heed = tt; gossip = tt; choice = tt }
   path_lawful (t ∷ h) sp v r =
       let before = path_played O S h r.1 r.0 r.2 in
       let then = path_played O S (t ∷ h) sp v r in
-      lawful_next h r.0 t v r.1 sp r.2 r.3 r.4 before.machine before.agrees then.machine then.agrees (path_lawful h r.1 r.0 r.2) (script_next O S h r.0 t v r.1 sp r.2 r.3 r.4 before.machine before.agrees) (path_again O S (t ∷ h) sp v r)
+      lawful_next h r.0 t v r.1 sp r.2 r.3 r.4 before.machine before.agrees then.machine then.agrees (path_lawful h r.1 r.0 r.2) (script_next O S h r.0 t v r.1 sp r.2 r.3 r.4 before.machine before.agrees) (path_again O S (t ∷ h) sp v r) (path_gossip O S (t ∷ h) sp v r) (path_choice O S (t ∷ h) sp v r)
 
   -- the places that a spot tells are at most one, and exactly one where it is alive
   alive_place : (s : Spot O) → alive O s ≡ true → (x : Place) × ((facts_of O S s).places ≡ x ∷ [])

@@ -49,3 +49,11 @@ pub mod Going
 pub mod SmallAble
 pub mod Near
 pub mod Taking
+pub mod HalfTargets
+pub mod Here
+pub mod Exchanged
+pub mod GossipLaws
+pub mod HonestVectors
+pub mod GossipStories
+pub mod WholeStory
+pub mod OneNode

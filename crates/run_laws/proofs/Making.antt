@@ -3,15 +3,16 @@ use Rattle.std.proofs.Common.{◌≡◌, ◌≢◌, ℕ, ◌<◌, ◌≤◌, ◌
 use Rattle.std.specs.Prelude.{ℤ}
 use Rattle.call_table.specs.declared.process.End.{End}
 use Rattle.node_event.specs.declared.script.Order.{Order}
-use Rattle.run_tokens.specs.Ops.{Ops, Sound}
-use Rattle.run_tokens.specs.Deeds.{Manner, Did, Broke, Fell, Paused, Deed, Run, Kill, Bid, Unsent, Other, Steps, Sent, Heed, Held, Served, Got, Poked, Begin, Keep, Missed, Again, Allows, Denies, Depart, Stay, Land, Told, Refused, Closed, Strange}
-use Rattle.run_tokens.specs.Notes.{Post, Turn, Body, Local, Slot, Running, context}
-use Rattle.run_tokens.specs.Spots.{Spot, Runs, slot_by}
-use Rattle.run_tokens.specs.Does.{Does, Makes, ServedBy, Retries, Ordered}
-use Rattle.run_tokens.specs.Cluster.{World, Fresh}
-use Rattle.run_tokens.specs.Rests.{Kind, Retry, RunOn, NextLine, LineReady, Applies}
-use Rattle.run_tokens.proofs.Process.{cond_here}
-use Rattle.run_tokens.proofs.Stand.{Stands, Path}
+use Rattle.protocol.specs.Ops.{Ops, Sound}
+use Rattle.protocol.specs.Deeds.{ForLine, Chosen, Manner, Did, Broke, Fell, Paused, Deed, Run, Kill, Bid, Unsent, Other, Steps, Sent, Heed, Held, Served, Got, Poked, Begin, Keep, Missed, Again, Allows, Denies, Depart, Stay, Land, Told, Refused, Closed, Gossips, Strange}
+use Rattle.protocol.specs.Notes.{Post, Turn, Body, Local, Slot, Running, context}
+use Rattle.protocol.specs.Spots.{Spot, Runs, slot_by}
+use Rattle.protocol.specs.Does.{Does, Makes, ServedBy, Retries, Ordered, Talks, HalfDueTo, NoneRuns}
+use Rattle.protocol.specs.Gossip.{Entry, Choice}
+use Rattle.protocol.specs.Cluster.{World, Fresh}
+use Rattle.protocol.specs.Rests.{Kind, Retry, RunOn, NextLine, SendHalf, LineReady, HalfReady, Applies}
+use Rattle.protocol.proofs.Process.{cond_here}
+use Rattle.protocol.proofs.Stand.{Stands, Path}
 
 module _ (O : Ops) (S : Sound O) where
   -- a letter is none
@@ -39,37 +40,52 @@ module _ (O : Ops) (S : Sound O) where
     served_kind Fell p number value child signal ends more poked d = off _ _ d.base.took free
     served_kind Paused p number value child signal ends more poked d = off _ _ d.base.took free
 
-    kind_at : (what : Deed) → Does O what n old t new → Result
-    kind_at (Run line i p) d = (NextLine, (d.home, ready_line line _ _ old new d.order))
-    kind_at (Kill line p g poked) d = (NextLine, (d.home, ready_line line _ _ old new d.order))
-    kind_at (Bid line p to) d = (NextLine, (d.home, ready_line line _ _ old new d.order))
-    kind_at (Unsent line p never) d = (NextLine, (d.home, ready_line line _ _ old new d.order))
-    kind_at (Other line input) d = (NextLine, (d.home, ready_line line _ _ old new d.order))
-    kind_at (Steps p k) d = (RunOn p, (d.body, d.was))
-    kind_at (Sent p k) d = (RunOn p, (d.body, d.was))
-    kind_at (Heed p) d = (RunOn p, (d.body, d.was))
-    kind_at (Held p k) d = off _ _ d.base.took free
-    kind_at (Served p manner number value child signal ends more poked) d = served_kind manner p number value child signal ends more poked d
-    kind_at (Got p child ended kept) d = off _ _ d.base.took free
-    kind_at (Poked p true) d = off _ _ d.base.took free
-    kind_at (Poked p false) d = off _ _ d.base.took free
-    kind_at (Begin p to line) d = off _ _ d.base.took free
-    kind_at (Keep p to line) d = off _ _ d.base.took free
-    kind_at (Missed p to line) d = off _ _ d.base.took free
-    kind_at (Again p to place line) d = off _ _ d.base.took free
-    kind_at (Allows p from need) d = off _ _ d.base.took free
-    kind_at (Denies p from need x) d = off _ _ d.base.took free
-    kind_at (Depart p to) d = off _ _ d.base.took free
-    kind_at (Stay p to need x) d = off _ _ d.base.took free
-    kind_at (Land p source) d = off _ _ d.base.took free
-    kind_at (Told p at source hops line poked) d = off _ _ d.base.took free
-    kind_at (Refused p to why line) (inl d) = off _ _ d.base.took free
-    kind_at (Refused p to why line) (inr d) = off _ _ d.base.took free
-    kind_at (Closed line) d = off _ _ d.base.took free
-    kind_at (Strange p) d = off _ _ d.base.took free
+    ready_half : (other : ℕ) (chosen : Option Choice) → n < O.nodes → Talks O false n other chosen old t new → HalfReady O n other old
+    ready_half other chosen below d = record {
+      below = below;
+      many = d.sends.0;
+      load = d.own.load;
+      loaded = d.loaded;
+      used = d.used;
+      in_use = d.in_use;
+      due = subst (λ (k : ℕ). HalfDueTo O n other d.own.load k (NoneRuns O old) old.gossip) (ap (λ (e : Entry). e.free) d.own_is) d.sends.1;
+    }
+
+    kind_at : (what : Deed) → n < O.nodes → Does O what n old t new → Result
+    kind_at (Run line i p) below d = (NextLine, (d.home, ready_line line _ _ old new d.order))
+    kind_at (Kill line p g poked) below d = (NextLine, (d.home, ready_line line _ _ old new d.order))
+    kind_at (Bid line p to) below d = (NextLine, (d.home, ready_line line _ _ old new d.order))
+    kind_at (Unsent line p never) below d = (NextLine, (d.home, ready_line line _ _ old new d.order))
+    kind_at (Other line input) below d = (NextLine, (d.home, ready_line line _ _ old new d.order))
+    kind_at (Steps p k) below d = (RunOn p, (d.body, d.was))
+    kind_at (Sent p k) below d = (RunOn p, (d.body, d.was))
+    kind_at (Heed p) below d = (RunOn p, (d.body, d.was))
+    kind_at (Held p k) below d = off _ _ d.base.took free
+    kind_at (Served p manner number value child signal ends more poked) below d = served_kind manner p number value child signal ends more poked d
+    kind_at (Got p child ended kept) below d = off _ _ d.base.took free
+    kind_at (Poked p true) below d = off _ _ d.base.took free
+    kind_at (Poked p false) below d = off _ _ d.base.took free
+    kind_at (Begin p to (ForLine line)) below d = off _ _ d.base.took free
+    kind_at (Begin p to (Chosen false other)) below d = (SendHalf other, ready_half other _ below d.why)
+    kind_at (Begin p to (Chosen true other)) below d = off _ _ d.base.took free
+    kind_at (Keep p to line) below d = off _ _ d.base.took free
+    kind_at (Missed p to line) below d = off _ _ d.base.took free
+    kind_at (Again p to place line) below d = off _ _ d.base.took free
+    kind_at (Allows p from need) below d = off _ _ d.base.took free
+    kind_at (Denies p from need x) below d = off _ _ d.base.took free
+    kind_at (Depart p to) below d = off _ _ d.base.took free
+    kind_at (Stay p to need x) below d = off _ _ d.base.took free
+    kind_at (Land p source) below d = off _ _ d.base.took free
+    kind_at (Told p at source hops line poked) below d = off _ _ d.base.took free
+    kind_at (Refused p to why line) below (inl d) = off _ _ d.base.took free
+    kind_at (Refused p to why line) below (inr d) = off _ _ d.base.took free
+    kind_at (Closed line) below d = off _ _ d.base.took free
+    kind_at (Gossips false other) below d = (SendHalf other, ready_half other _ below d.talks)
+    kind_at (Gossips true other) below d = off _ _ d.base.took free
+    kind_at (Strange p) below d = off _ _ d.base.took free
 
     pub kind_of : Makes O n old t new → Result
-    kind_of makes = kind_at t.event.what makes.does
+    kind_of makes = kind_at t.event.what makes.below makes.does
 
   -- a node that the cluster does not have does nothing
   pub beyond : (h : List (Turn O)) (sp : ℕ → Spot O) (w : World O) → Path O S h sp w → (n : ℕ) → O.nodes ≤ n → Fresh O n (w.nodes n)

@@ -4,19 +4,20 @@ use Rattle.std.specs.Prelude.{ℤ}
 use Rattle.std.proofs.lemmas.Bool.Decides.{leb_tells}
 use lib.Dec.{leb}
 use Rattle.call_table.specs.declared.process.End.{End}
-use Rattle.run_tokens.specs.Ops.{Ops, Sound, is_child}
-use Rattle.run_tokens.specs.Deeds.{Manner, Did, Broke, Fell, Paused, Deed, Run, Kill, Bid, Unsent, Other, Steps, Sent, Heed, Held, Served, Got, Poked, Begin, Keep, Missed, Again, Allows, Denies, Depart, Stay, Land, Told, Refused, Closed, Strange}
-use Rattle.run_tokens.specs.Notes.{Done, Post, Poke, NoMove, Ask, letter, Turn, Body, Kept, context, Waiting, Slot, Local, Believed}
-use Rattle.run_tokens.specs.Spots.{Spot, Holds, slot_by}
-use Rattle.run_tokens.specs.Home.{after, pokes, line_closed}
-use Rattle.run_tokens.specs.Does.{Does, ServedBy, place_told, got_posts}
-use Rattle.run_tokens.specs.Cluster.{World, for_link, at_front, Goes, events}
-use Rattle.run_tokens.specs.Needs.{Names}
-use Rattle.run_tokens.proofs.Talk.{same_numbers, numbers_same, numbers_other, other_numbers}
-use Rattle.run_tokens.proofs.Process.{cond_here, StateTells, call_tells, context_tells}
-use Rattle.run_tokens.proofs.Stand.{EachBound, Stands, Path, names_at}
+use Rattle.protocol.specs.Ops.{Ops, Sound, is_child}
+use Rattle.protocol.specs.Deeds.{ForLine, Chosen, Manner, Did, Broke, Fell, Paused, Deed, Run, Kill, Bid, Unsent, Other, Steps, Sent, Heed, Held, Served, Got, Poked, Begin, Keep, Missed, Again, Allows, Denies, Depart, Stay, Land, Told, Refused, Closed, Gossips, Strange}
+use Rattle.protocol.specs.Notes.{Done, Post, Poke, NoMove, Ask, letter, Turn, Body, Kept, context, Waiting, Slot, Local, Believed}
+use Rattle.protocol.specs.Spots.{Spot, Holds, slot_by}
+use Rattle.protocol.specs.Home.{after, pokes, line_closed}
+use Rattle.protocol.specs.Does.{Does, ServedBy, place_told, got_posts}
+use Rattle.protocol.specs.Cluster.{World, for_link, at_front, Goes, events}
+use Rattle.protocol.specs.Needs.{Names}
+use Rattle.protocol.proofs.Talk.{same_numbers, numbers_same, numbers_other, other_numbers}
+use Rattle.protocol.proofs.Process.{cond_here, StateTells, call_tells, context_tells}
+use Rattle.protocol.proofs.Stand.{EachBound, Stands, Path, names_at}
 use Rattle.run_laws.proofs.Sleeps.{KeptFor, Sleeps, Since, path_sleeps}
 use Rattle.run_laws.proofs.Making.{beyond}
+use Rattle.run_laws.proofs.HalfTargets.{half_near, choice_near}
 use Rattle.run_laws.proofs.Weave.{marked, posts_elsewhere}
 
 module _ (O : Ops) (S : Sound O) (some : 1 ≤ O.nodes) where
@@ -123,7 +124,9 @@ module _ (O : Ops) (S : Sound O) (some : 1 ≤ O.nodes) where
     posts_near (Got p child ended kept) is d = by _ d.base.posts (got_near n t.event.stamp p d.body d.keeps d.done (kept_of p (Since O S (events O h) p) d.body d.pause d.keeps n (sp p) (context_tells O p (sp p) w (st.at p) n d.body (Waiting d.pause d.keeps) d.was) (path_sleeps O S h sp w path p)))
     posts_near (Poked p true) is d = by _ d.base.posts tt
     posts_near (Poked p false) is d = by _ d.base.posts tt
-    posts_near (Begin p to line) is d = by _ d.base.posts (S.targets line p to is, tt)
+    posts_near (Begin p to (ForLine line)) is d = by _ d.base.posts (S.targets line p to is, tt)
+    posts_near (Begin p to (Chosen false other)) is d = by _ d.base.posts (half_near O n old t new other _ d.why, (choice_near O S n old t new false other p to d.why, tt))
+    posts_near (Begin p to (Chosen true other)) is d = by _ d.base.posts (choice_near O S n old t new true other p to d.why, tt)
     posts_near (Keep p to line) is d = by _ d.base.posts tt
     posts_near (Missed p to line) is d = by _ d.base.posts (some, tt)
     posts_near (Again p to place line) is d = by _ d.base.posts (subst (λ (k : ℕ). k < O.nodes) (sym d.place_is) (here d.home p), tt)
@@ -136,6 +139,8 @@ module _ (O : Ops) (S : Sound O) (some : 1 ≤ O.nodes) where
     posts_near (Refused p to why line) is (inl d) = by _ d.base.posts (some, tt)
     posts_near (Refused p to why line) is (inr d) = by _ d.base.posts tt
     posts_near (Closed line) is d = by _ d.base.posts tt
+    posts_near (Gossips false other) is d = by _ d.base.posts (half_near O n old t new other _ d.talks, tt)
+    posts_near (Gossips true other) is d = by _ d.base.posts tt
     posts_near (Strange p) is d = by _ d.base.posts tt
 
     -- the believed places stay in the cluster
@@ -168,7 +173,7 @@ module _ (O : Ops) (S : Sound O) (some : 1 ≤ O.nodes) where
     places (Got p child ended kept) d q x = same_places q (d.still.believed q) x
     places (Poked p true) d q x = same_places q (d.still.believed q) x
     places (Poked p false) d q x = same_places q (d.still.believed q) x
-    places (Begin p to line) d q x = same_places q (d.still.believed q) x
+    places (Begin p to reason) d q x = same_places q (d.still.believed q) x
     places (Keep p to line) d q x = same_places q (d.still.believed q) x
     places (Missed p to line) d q x = same_places q (d.still.believed q) x
     places (Again p to place line) d q x = same_places q (d.still.believed q) x
@@ -181,6 +186,7 @@ module _ (O : Ops) (S : Sound O) (some : 1 ≤ O.nodes) where
     places (Refused p to why line) (inl d) q x = same_places q (d.still.believed q) x
     places (Refused p to why line) (inr d) q x = same_places q (d.still.believed q) x
     places (Closed line) d q x = same_places q (d.still.believed q) x
+    places (Gossips heard other) d q x = same_places q (d.still.believed q) x
     places (Strange p) d q x = same_places q (d.still.believed q) x
 
     near_next : (q : ℕ) → ((v.nodes 0).believed q).place < O.nodes

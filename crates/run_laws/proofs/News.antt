@@ -1,22 +1,22 @@
 -- A Go is sent again only with news, and to the believed place.
 use Rattle.std.proofs.Common.{◌≡◌, ◌≢◌, ℕ, ◌<◌, ◌≤◌, ◌==◌, ◌&&◌, ◌⊎◌, inl, inr, Bool, true, false, cond, Option, Some, None, List, [], ◌∷◌, ◌++◌, refl, sym, ap, ◌∙◌, subst}
-use Rattle.run_tokens.specs.Ops.{Ops, Sound}
-use Rattle.run_tokens.specs.Deeds.{Manner, Did, Broke, Fell, Paused, Deed, Run, Kill, Bid, Unsent, Other, Steps, Sent, Heed, Held, Served, Got, Poked, Begin, Keep, Missed, Again, Allows, Denies, Depart, Stay, Land, Told, Refused, Closed, Strange, Noted, pid_of}
-use Rattle.run_tokens.specs.Notes.{Done, Note, Call, Pause, Reply, Poke, Half, Go, NotHere, Ask, Allow, Deny, Move, Landed, NoMove, Post, Turn, letter, Body, Kept, Local, Believed}
-use Rattle.run_tokens.specs.Spots.{Spot, site}
-use Rattle.run_tokens.specs.Cluster.{World, for_link, at_front, Goes}
-use Rattle.run_tokens.specs.Does.{Does, ServedBy, got_posts, place_told}
-use Rattle.run_tokens.specs.Home.{pokes, line_closed, after, born_at}
-use Rattle.run_tokens.specs.Needs.{Needs, ServedSo, ServedCall, asked}
-use Rattle.run_tokens.specs.Cluster.{events}
+use Rattle.protocol.specs.Ops.{Ops, Sound}
+use Rattle.protocol.specs.Deeds.{ForLine, Chosen, Manner, Did, Broke, Fell, Paused, Deed, Run, Kill, Bid, Unsent, Other, Steps, Sent, Heed, Held, Served, Got, Poked, Begin, Keep, Missed, Again, Allows, Denies, Depart, Stay, Land, Told, Refused, Closed, Gossips, Strange, Noted, pid_of}
+use Rattle.protocol.specs.Notes.{Done, Note, Call, Pause, Reply, Poke, Half, Go, NotHere, Ask, Allow, Deny, Move, Landed, NoMove, Post, Turn, letter, Body, Kept, Local, Believed}
+use Rattle.protocol.specs.Spots.{Spot, site}
+use Rattle.protocol.specs.Cluster.{World, for_link, at_front, Goes}
+use Rattle.protocol.specs.Does.{Does, ServedBy, got_posts, place_told}
+use Rattle.protocol.specs.Home.{pokes, line_closed, after, born_at}
+use Rattle.protocol.specs.Needs.{Needs, ServedSo, ServedCall, asked}
+use Rattle.protocol.specs.Cluster.{events}
 use Rattle.run_laws.specs.Facts.{Node, Facts, facts}
 use Rattle.run_laws.proofs.Errands.{settled, Errand, Untried, errand_way, of_line}
 use Rattle.run_laws.proofs.Belief.{Pick, no_belief, BelievesBy, Believes, AskedBy, Asked, NewsLaw, NewsEver}
-use Rattle.run_tokens.proofs.Talk.{same_numbers, other_numbers, numbers_same, numbers_other}
+use Rattle.protocol.proofs.Talk.{same_numbers, other_numbers, numbers_same, numbers_other}
 use Rattle.run_laws.proofs.Family.{words, NoneOf, was_under}
-use Rattle.run_tokens.proofs.Stand.{Stands, Step, Path}
+use Rattle.protocol.proofs.Stand.{Stands, Step, Path}
 use Rattle.run_laws.proofs.Lines.{errand_tells, Lines, path_lines}
-use Rattle.run_tokens.proofs.Quiet.{home_so}
+use Rattle.protocol.proofs.Quiet.{home_so}
 use Rattle.run_laws.proofs.Facts.{facts_of, path_tells}
 use Rattle.run_laws.proofs.Moves.{path_balanced}
 use Rattle.run_laws.proofs.Trails.{path_trails, path_lives, served_from}
@@ -193,10 +193,10 @@ module _ (O : Ops) (S : Sound O) where
     order_asked line x to is d = sends (Bid line x to) line is (λ l i ne y. pick_false (line == l) _ _ (other_numbers line l (λ z. ne (sym z))) y) none _ d.base.posts (here, tt)
       where
         fresh : ln.errands line ≡ Untried
-        fresh = ln.untried line (subst (λ (k : ℕ). (w.nodes k).progress.line < line) d.home d.order.rises)
+        fresh = ln.untried line (subst (λ (k : ℕ). (w.nodes k).progress.line ≤ line) d.home d.order.rises)
 
         none : (a b : ℕ) → words O (of_line O line) (goes.rest a b) ≡ []
-        none a b = sym (ap (words O (of_line O line)) (goes.takes a b ∙ ap (λ (o : Option (Post O)). at_front O o a b ++ goes.rest a b) d.base.took)) ∙ (ln.under line a b ∙ ap (λ (e : Errand). Rattle.run_tokens.proofs.Talk.on_link O (errand_way O line e) a b) fresh)
+        none a b = sym (ap (words O (of_line O line)) (goes.takes a b ∙ ap (λ (o : Option (Post O)). at_front O o a b ++ goes.rest a b) d.base.took)) ∙ (ln.under line a b ∙ ap (λ (e : Errand). Rattle.protocol.proofs.Talk.on_link O (errand_way O line e) a b) fresh)
 
         here : Asked line es2 (old.believed x).hops
         here = subst (λ (y : Deed). AskedBy y line es (Asked line es) (old.believed x).hops) (sym is) (pick_true (line == line) _ _ (same_numbers line line refl) (old.believed x, home_believes d.home x, refl))
@@ -232,7 +232,9 @@ module _ (O : Ops) (S : Sound O) where
     asked_next (Got p child ended kept) is d = quiet (Got p child ended kept) is (λ l i y. y) _ d.base.posts (got_asked p d.body d.keeps d.done)
     asked_next (Poked p true) is d = quiet (Poked p true) is (λ l i y. y) _ d.base.posts tt
     asked_next (Poked p false) is d = quiet (Poked p false) is (λ l i y. y) _ d.base.posts tt
-    asked_next (Begin p to line) is d = quiet (Begin p to line) is (λ l i y. y) _ d.base.posts (tt, tt)
+    asked_next (Begin p to (ForLine line)) is d = quiet (Begin p to (ForLine line)) is (λ l i y. y) _ d.base.posts (tt, tt)
+    asked_next (Begin p to (Chosen false other)) is d = quiet (Begin p to (Chosen false other)) is (λ l i y. y) _ d.base.posts (tt, (tt, tt))
+    asked_next (Begin p to (Chosen true other)) is d = quiet (Begin p to (Chosen true other)) is (λ l i y. y) _ d.base.posts (tt, tt)
     asked_next (Keep p to line) is d = quiet (Keep p to line) is (λ l i y. y) _ d.base.posts tt
     asked_next (Missed p to line) is d = quiet (Missed p to line) is (λ l i y. y) _ d.base.posts (kept_asked (Missed p to line) is (λ l i y. y) line d.hops (subst TakenAsked d.base.took taken_asked), tt)
     asked_next (Again p to place line) is d = again_asked p place line to is d
@@ -245,6 +247,8 @@ module _ (O : Ops) (S : Sound O) where
     asked_next (Refused p to why line) is (inl d) = quiet (Refused p to why line) is (λ l i y. y) _ d.base.posts (tt, tt)
     asked_next (Refused p to why line) is (inr d) = quiet (Refused p to why line) is (λ l i y. y) _ d.base.posts tt
     asked_next (Closed line) is d = quiet (Closed line) is (λ l i y. y) _ d.base.posts tt
+    asked_next (Gossips false other) is d = quiet (Gossips false other) is (λ l i y. y) _ d.base.posts (tt, tt)
+    asked_next (Gossips true other) is d = quiet (Gossips true other) is (λ l i y. y) _ d.base.posts tt
     asked_next (Strange p) is d = quiet (Strange p) is (λ l i y. y) _ d.base.posts tt
 
     -- the law, at the event
@@ -261,7 +265,7 @@ module _ (O : Ops) (S : Sound O) where
     news_at (Served p manner number value child signal ends more poked) d = tt
     news_at (Got p child ended kept) d = tt
     news_at (Poked p used) d = tt
-    news_at (Begin p to line) d = tt
+    news_at (Begin p to reason) d = tt
     news_at (Keep p to line) d = tt
     news_at (Missed p to line) d = tt
     news_at (Again p to place line) d = record { belief = old.believed p; believes = home_believes d.home p; place_is = d.place_is; told_then = d.hops; asked = subst TakenAsked d.base.took taken_asked; more = d.news; open_line = ln.result line ∙ ap settled (errand_tells O S line (ln.errands line) _ (was_under O (of_line O line) w t v goes (errand_way O line (ln.errands line)) _ (ln.under line) d.base.took (same_numbers line line refl)).0) }
@@ -273,6 +277,7 @@ module _ (O : Ops) (S : Sound O) where
     news_at (Told p at source hops line poked) d = tt
     news_at (Refused p to why line) d = tt
     news_at (Closed line) d = tt
+    news_at (Gossips heard other) d = tt
     news_at (Strange p) d = tt
 
     home_same : ((q : ℕ) → new.believed q ≡ old.believed q) → (q : ℕ) → (v.nodes 0).believed q ≡ (w.nodes 0).believed q
@@ -370,7 +375,7 @@ module _ (O : Ops) (S : Sound O) where
     believes_next (Got p child ended kept) d need q = same_belief q (home_same d.still.believed q)
     believes_next (Poked p true) d need q = same_belief q (home_same d.still.believed q)
     believes_next (Poked p false) d need q = same_belief q (home_same d.still.believed q)
-    believes_next (Begin p to line) d need q = same_belief q (home_same d.still.believed q)
+    believes_next (Begin p to reason) d need q = same_belief q (home_same d.still.believed q)
     believes_next (Keep p to line) d need q = same_belief q (home_same d.still.believed q)
     believes_next (Missed p to line) d need q = same_belief q (home_same d.still.believed q)
     believes_next (Again p to place line) d need q = same_belief q (home_same d.still.believed q)
@@ -383,6 +388,7 @@ module _ (O : Ops) (S : Sound O) where
     believes_next (Refused p to why line) (inl d) need q = same_belief q (home_same d.still.believed q)
     believes_next (Refused p to why line) (inr d) need q = same_belief q (home_same d.still.believed q)
     believes_next (Closed line) d need q = same_belief q (home_same d.still.believed q)
+    believes_next (Gossips heard other) d need q = same_belief q (home_same d.still.believed q)
     believes_next (Strange p) d need q = same_belief q (home_same d.still.believed q)
 
     news_next : News (t ∷ h) v

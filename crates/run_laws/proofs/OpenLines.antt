@@ -6,15 +6,15 @@ use Rattle.node_event.specs.declared.script.Order.TheVariants as order
 use Rattle.node_event.specs.declared.script.ScriptLine.{ScriptLine}
 use Rattle.std.proofs.lemmas.Bool.Decides.{leb_tells}
 use lib.Dec.{leb}
-use Rattle.run_tokens.specs.Ops.{Ops, Sound, is_child}
-use Rattle.run_tokens.specs.Deeds.{Input, Text, Finish, Nothing, Manner, Did, Broke, Fell, Paused, KeptTold, Deed, Run, Kill, Bid, Unsent, Other, Steps, Sent, Heed, Held, Served, Got, Poked, Begin, Keep, Missed, Again, Allows, Denies, Depart, Stay, Land, Told, Refused, Closed, Strange, Noted, pid_of, child_of}
-use Rattle.run_tokens.specs.Notes.{Note, Call, Pause, Reply, Poke, Half, Go, NotHere, Ask, Allow, Deny, Move, Landed, NoMove, Post, Turn, Kept, Local}
-use Rattle.run_tokens.specs.Spots.{Spot, Nowhere, Runs, Calls, Holds, Pauses, Answered, Asks, Granted, Denied, Travels, InReply, Ended}
-use Rattle.run_tokens.specs.Does.{Does, ServedBy, Feeds, kept_told}
-use Rattle.run_tokens.specs.Cluster.{World, for_link, at_front, Goes, events}
-use Rattle.run_tokens.specs.Needs.{Needs, FreeAt}
-use Rattle.run_tokens.proofs.Talk.{same_numbers, numbers_same, numbers_other, other_numbers}
-use Rattle.run_tokens.proofs.Stand.{Step, Path}
+use Rattle.protocol.specs.Ops.{Ops, Sound, is_child}
+use Rattle.protocol.specs.Deeds.{ForLine, Chosen, Input, Text, Finish, Nothing, Manner, Did, Broke, Fell, Paused, KeptTold, Deed, Run, Kill, Bid, Unsent, Other, Steps, Sent, Heed, Held, Served, Got, Poked, Begin, Keep, Missed, Again, Allows, Denies, Depart, Stay, Land, Told, Refused, Closed, Gossips, Strange, Noted, pid_of, child_of}
+use Rattle.protocol.specs.Notes.{Note, Call, Pause, Reply, Poke, Half, Go, NotHere, Ask, Allow, Deny, Move, Landed, NoMove, Post, Turn, Kept, Local}
+use Rattle.protocol.specs.Spots.{Spot, Nowhere, Runs, Calls, Holds, Pauses, Answered, Asks, Granted, Denied, Travels, InReply, Ended}
+use Rattle.protocol.specs.Does.{Does, ServedBy, Feeds, kept_told}
+use Rattle.protocol.specs.Cluster.{World, for_link, at_front, Goes, events}
+use Rattle.protocol.specs.Needs.{Needs, FreeAt}
+use Rattle.protocol.proofs.Talk.{same_numbers, numbers_same, numbers_other, other_numbers}
+use Rattle.protocol.proofs.Stand.{Step, Path}
 use Rattle.run_laws.specs.Facts.{Facts, fact_own, fact_child, facts}
 use Rattle.run_laws.specs.Outcomes.{outcome_line, ended_line, outcomes, counted_if}
 use Rattle.run_laws.specs.ScriptLaw.{line_of, one_more, commands}
@@ -144,7 +144,9 @@ module _ (O : Ops) (S : Sound O) where
     way_next (Got p child ended kept) f r d need x = stays (Got p child ended kept) f _ d.base.took refl x
     way_next (Poked p true) f r d need x = stays (Poked p true) f _ d.base.took refl x
     way_next (Poked p false) f r d need x = stays (Poked p false) f _ d.base.took refl x
-    way_next (Begin p to line) f r d need x = meets (Begin p to line) f line _ d.base.took (λ z. z) (λ z. inr (inr (ap (λ (k : ℕ). Some k) z))) x
+    way_next (Begin p to (ForLine line)) f r d need x = meets (Begin p to (ForLine line)) f line _ d.base.took (λ z. z) (λ z. inr (inr (ap (λ (k : ℕ). Some k) z))) x
+    way_next (Begin p to (Chosen false other)) f r d need x = stays (Begin p to (Chosen false other)) f _ d.base.took tt x
+    way_next (Begin p to (Chosen true other)) f r d need x = stays (Begin p to (Chosen true other)) f _ d.base.took refl x
     way_next (Keep p to line) f r d need x = meets (Keep p to line) f line _ d.base.took (λ z. z) (λ z. inr (inr (ap (λ (k : ℕ). Some k) z))) x
     way_next (Missed p to line) f r d need x = meets (Missed p to line) f line _ d.base.took (λ z. z) (λ z. inr (inl (way_posts _ _ d.base.posts (same_numbers line l z)))) x
     way_next (Again p to place line) f r d need x = meets (Again p to place line) f line _ d.base.took (λ z. z) (λ z. inr (inl (way_posts _ _ d.base.posts (same_numbers line l z)))) x
@@ -157,6 +159,8 @@ module _ (O : Ops) (S : Sound O) where
     way_next (Refused p to why line) f r (inl d) need x = meets (Refused p to why line) f line _ d.base.took (λ z. z) (λ z. inl (ap (λ (k : ℕ). Some k) z)) x
     way_next (Refused p to why line) f r (inr d) need x = meets (Refused p to why line) f line _ d.base.took (λ z. z) (λ z. inl (ap (λ (k : ℕ). Some k) z)) x
     way_next (Closed line) f r d need x = stays (Closed line) f _ d.base.took refl x
+    way_next (Gossips false other) f r d need x = stays (Gossips false other) f _ d.base.took tt x
+    way_next (Gossips true other) f r d need x = stays (Gossips true other) f _ d.base.took refl x
     way_next (Strange p) f r d need x = absurd need
 
     -- a running context moves for no line, nor does one that waits without a kept move
@@ -195,7 +199,7 @@ module _ (O : Ops) (S : Sound O) where
     own_next (Served p manner number value child signal ends more poked) f r e need x = inr (inr x)
     own_next (Got p child ended kept) f r e need x = got_line p child ended kept f need.is.keeps (need.is.kept_is ∙ ap (kept_told O need.is.keeps) (sym need.is.ended_is)) (ap (λ (k : Facts). k.line) (e ∙ ap (facts_of O S) need.is.was)) x
     own_next (Poked p used) f r e need x = inr (inr x)
-    own_next (Begin p to line) f r e need x = none (Begin p to line) f (Runs n need.is.body) (e ∙ ap (facts_of O S) need.is.was) refl x
+    own_next (Begin p to reason) f r e need x = none (Begin p to reason) f (Runs n need.is.body) (e ∙ ap (facts_of O S) need.is.was) refl x
     own_next (Keep p to line) f r e need x = none (Keep p to line) f (sp p) e (free_line (sp p) need.is.free) x
     own_next (Missed p to line) f r e need x = inr (inr x)
     own_next (Again p to place line) f r e need x = inr (inr x)
@@ -207,6 +211,7 @@ module _ (O : Ops) (S : Sound O) where
     own_next (Told p at source hops line poked) f r e need x = inr (inr x)
     own_next (Refused p to why line) f r e need x = inr (inr x)
     own_next (Closed line) f r e need x = inr (inr x)
+    own_next (Gossips heard other) f r e need x = inr (inr x)
     own_next (Strange p) f r e need x = absurd need
 
     line_is : (a b : ScriptLine) (o : Option ScriptLine) → o ≡ Some a → o ≡ Some b → a ≡ b
@@ -231,7 +236,7 @@ module _ (O : Ops) (S : Sound O) where
     tried_next (Served q manner number value child signal ends more poked) f d x p to e is = absurd cc
     tried_next (Got q child ended kept) f d x p to e is = absurd cc
     tried_next (Poked q used) f d x p to e is = absurd cc
-    tried_next (Begin q at line) f d x p to e is = absurd cc
+    tried_next (Begin q at reason) f d x p to e is = absurd cc
     tried_next (Keep q at line) f d x p to e is = absurd cc
     tried_next (Missed q at line) f d x p to e is = absurd cc
     tried_next (Again q at place line) f d x p to e is = absurd cc
@@ -243,6 +248,7 @@ module _ (O : Ops) (S : Sound O) where
     tried_next (Told q at source hops line poked) f d x p to e is = absurd cc
     tried_next (Refused q at why line) f d x p to e is = absurd cc
     tried_next (Closed line) f d x p to e is = absurd cc
+    tried_next (Gossips heard other) f d x p to e is = absurd cc
     tried_next (Strange q) f d x p to e is = absurd cc
 
   -- where a line is that was carried out
@@ -262,7 +268,7 @@ module _ (O : Ops) (S : Sound O) where
   child_line (Heed p) n f = refl
   child_line (Held p k) n f = refl
   child_line (Poked p used) n f = refl
-  child_line (Begin p to line) n f = refl
+  child_line (Begin p to reason) n f = refl
   child_line (Keep p to line) n f = refl
   child_line (Missed p to line) n f = refl
   child_line (Again p to place line) n f = refl
@@ -274,6 +280,7 @@ module _ (O : Ops) (S : Sound O) where
   child_line (Told p at source hops line poked) n f = refl
   child_line (Refused p to why line) n f = refl
   child_line (Closed line) n f = refl
+  child_line (Gossips heard other) n f = refl
   child_line (Strange p) n f = refl
 
   module _ (h : List (Turn O)) (w : World O) (t : Turn O) (v : World O) (sp next : ℕ → Spot O) (path : Path O S h sp w) (st : Step O S sp w t next v) (l : ℕ) where
@@ -328,7 +335,7 @@ module _ (O : Ops) (S : Sound O) where
   command_home w t v (Served q manner number value child signal ends more poked) d x e = absurd cc
   command_home w t v (Got q child ended kept) d x e = absurd cc
   command_home w t v (Poked q used) d x e = absurd cc
-  command_home w t v (Begin q at line) d x e = absurd cc
+  command_home w t v (Begin q at reason) d x e = absurd cc
   command_home w t v (Keep q at line) d x e = absurd cc
   command_home w t v (Missed q at line) d x e = absurd cc
   command_home w t v (Again q at place line) d x e = absurd cc
@@ -340,6 +347,7 @@ module _ (O : Ops) (S : Sound O) where
   command_home w t v (Told q at source hops line poked) d x e = absurd cc
   command_home w t v (Refused q at why line) d x e = absurd cc
   command_home w t v (Closed line) d x e = absurd cc
+  command_home w t v (Gossips heard other) d x e = absurd cc
   command_home w t v (Strange q) d x e = absurd cc
 
   carried_next : (h : List (Turn O)) (w : World O) (t : Turn O) (v : World O) (sp next : ℕ → Spot O) → Path O S h sp w → Step O S sp w t next v → (l p to : ℕ) → (IsCarried O l p to (events O h) → Somewhere l (events O h) w) → IsCarried O l p to (t.event ∷ events O h) → Somewhere l (t.event ∷ events O h) v

@@ -7,16 +7,16 @@ use lib.Dec.{leb}
 use Rattle.node_event.specs.declared.script.Order.{Order}
 use Rattle.node_event.specs.declared.script.Order.TheVariants as order
 use Rattle.node_event.specs.declared.script.ScriptLine.{ScriptLine}
-use Rattle.run_tokens.specs.Ops.{Ops, Sound, IsMove}
-use Rattle.run_tokens.specs.Deeds.{order_at, Noted}
-use Rattle.run_tokens.specs.Notes.{Call, Pause, Reply, Ask, Allow, Deny, Move, Post, Turn, Body, Kept, Slot, Running, context, Way, way}
-use Rattle.run_tokens.specs.Spots.{Spot, Nowhere, Runs, Calls, Holds, Pauses, Answered, Asks, Granted, Denied, Travels, InReply, Ended, call_at, slot_by, way_by}
-use Rattle.run_tokens.specs.Cluster.{World, Goes, at_front, events}
-use Rattle.run_tokens.specs.Needs.{brings, Right, alive}
-use Rattle.run_tokens.specs.Rests.{Kind, Retry, RunOn, NextLine, AllRest}
-use Rattle.run_tokens.proofs.Talk.{same_numbers, numbers_same, talk, on_link}
-use Rattle.run_tokens.proofs.Process.{cond_here}
-use Rattle.run_tokens.proofs.Stand.{Stands, Path}
+use Rattle.protocol.specs.Ops.{Ops, Sound, IsMove}
+use Rattle.protocol.specs.Deeds.{order_at, Noted}
+use Rattle.protocol.specs.Notes.{Call, Pause, Reply, Ask, Allow, Deny, Move, Post, Turn, Body, Kept, Slot, Running, context, Way, way}
+use Rattle.protocol.specs.Spots.{Spot, Nowhere, Runs, Calls, Holds, Pauses, Answered, Asks, Granted, Denied, Travels, InReply, Ended, call_at, slot_by, way_by}
+use Rattle.protocol.specs.Cluster.{World, Goes, at_front, events}
+use Rattle.protocol.specs.Needs.{brings, Right, alive}
+use Rattle.protocol.specs.Rests.{Kind, Retry, RunOn, NextLine, SendHalf, IsHalf, AllRest}
+use Rattle.protocol.proofs.Talk.{same_numbers, numbers_same, talk, on_link}
+use Rattle.protocol.proofs.Process.{cond_here}
+use Rattle.protocol.proofs.Stand.{Stands, Path}
 use Rattle.run_laws.specs.Machine.{MachineState}
 use Rattle.run_laws.specs.Schedule.{machine_at, With}
 use Rattle.run_laws.specs.Facts.{Facts, facts, is_held}
@@ -240,12 +240,13 @@ module _ (O : Ops) (S : Sound O) where
 
   -- where a run is done no node has anything to do without a letter
   module _ (h : List (Turn O)) (sp : ℕ → Spot O) (w : World O) (path : Path O S h sp w) (m : MachineState O) (agrees : Agrees O S h sp (w.nodes 0) m) where
-    pub done_rests : IsDone O (events O h) m → (k : Kind) (n : ℕ) → DueAs O k n (events O h) m → ⊥
-    done_rests d (Retry p) n x =
+    pub done_rests : IsDone O (events O h) m → (k : Kind) (n : ℕ) → (IsHalf k → ⊥) → DueAs O k n (events O h) m → ⊥
+    done_rests d (SendHalf other) n f x = f tt
+    done_rests d (Retry p) n f x =
         let t = held_spot O S (sp p) (sym (ap is_held (path_tells O S h sp w path p)) ∙ x.1.held) in
         let z : false ≡ true = sym (d.ended p) ∙ (agrees.alive p ∙ ap (alive O) t.4) in cc
-    done_rests d (RunOn p) n x = let z : false ≡ true = sym (d.ended p) ∙ x.live in cc
-    done_rests d NextLine n x = let within = slice_get_within O.script (commands (events O h)) x.1.line x.1.next in omega (arith, within, d.script)
+    done_rests d (RunOn p) n f x = let z : false ≡ true = sym (d.ended p) ∙ x.live in cc
+    done_rests d NextLine n f x = let within = slice_get_within O.script (commands (events O h)) x.1.line x.1.next in omega (arith, within, d.script)
 
   -- where all rests no turn is made
   pub no_turn : (h : List (Turn O)) (sp : ℕ → Spot O) (w : World O) → Path O S h sp w → Stands O S sp w → 1 ≤ O.nodes → AllRest O w → (t : Turn O) (v : World O) → Goes O w t v → ⊥

@@ -2,17 +2,17 @@
 use Rattle.std.proofs.Common.{arith, ◌≤◌, ◌≡◌, ◌≢◌, ℕ, ◌+◌, ◌==◌, Bool, true, false, cond, Option, Some, None, List, ◌∷◌, refl, sym, ap, ◌∙◌, subst}
 use Rattle.std.proofs.lemmas.Bool.Decides.{nat_tests}
 use Rattle.std.specs.Prelude.{nat_lt, option_and_then, ℤ}
-use Rattle.run_tokens.specs.Ops.{Ops, Sound, Acted, is_child, typed}
-use Rattle.run_tokens.specs.Deeds.{Manner, Did, Broke, Fell, Paused, Deed, Run, Kill, Bid, Unsent, Other, Steps, Sent, Heed, Held, Served, Got, Poked, Begin, Keep, Missed, Again, Allows, Denies, Depart, Stay, Land, Told, Refused, Closed, Strange, pid_of, child_of}
-use Rattle.run_tokens.specs.Notes.{Done, Body, Kept, Local}
-use Rattle.run_tokens.specs.Spots.{Spot, Nowhere, Runs, Calls, Holds, Pauses, Answered, Asks, Granted, Denied, Travels, InReply, Ended}
-use Rattle.run_tokens.specs.Home.{First, last, Acts, give, enter, returned, after, value_of}
-use Rattle.run_tokens.specs.Needs.{Needs, ServedSo, ServedCall, ServedPause, got_spot, asked, mark, keep_in, brings, user_at, born_spot, alive, Right}
+use Rattle.protocol.specs.Ops.{Ops, Sound, Acted, is_child, typed}
+use Rattle.protocol.specs.Deeds.{Manner, Did, Broke, Fell, Paused, Deed, Run, Kill, Bid, Unsent, Other, Steps, Sent, Heed, Held, Served, Got, Poked, Begin, Keep, Missed, Again, Allows, Denies, Depart, Stay, Land, Told, Refused, Closed, Gossips, Strange, pid_of, child_of}
+use Rattle.protocol.specs.Notes.{Done, Body, Kept, Local}
+use Rattle.protocol.specs.Spots.{Spot, Nowhere, Runs, Calls, Holds, Pauses, Answered, Asks, Granted, Denied, Travels, InReply, Ended}
+use Rattle.protocol.specs.Home.{First, last, Acts, give, enter, returned, after, value_of}
+use Rattle.protocol.specs.Needs.{Needs, ServedSo, ServedCall, ServedPause, got_spot, asked, mark, keep_in, brings, user_at, born_spot, alive, Right}
 use Rattle.run_laws.specs.Machine.{ReplyGiven, MachineState, with_user, with_kernel, with_reply, with_child}
 use Rattle.run_laws.specs.Schedule.{told_so, told_by}
 use Rattle.run_laws.proofs.Plays.{took_where, served, plays}
-use Rattle.run_tokens.proofs.Talk.{same_numbers, other_numbers}
-use Rattle.run_tokens.proofs.Process.{cond_here, cond_off}
+use Rattle.protocol.proofs.Talk.{same_numbers, other_numbers}
+use Rattle.protocol.proofs.Process.{cond_here, cond_off}
 use Rattle.call_table.specs.declared.process.End.{End}
 
 some_steps : (k : ℕ) → 1 ≤ k → nat_lt 0 k ≡ true
@@ -332,7 +332,7 @@ module _ (O : Ops) (S : Sound O) where
         idle (Got p child ended kept) (λ x. refl) (λ rs. refl) d.kernel user (ap user_of d.is.now ∙ (g ∙ sym (ap user_of d.is.was))) (λ c e. kid c (b ∙ e))
     played_at (Poked p true) d apart kid user live right = idle (Poked p true) (λ x. refl) (λ rs. refl) d.kernel user (ap user_of d.is.now ∙ mark_user s) (λ c h. none_child c _ h)
     played_at (Poked p false) d apart kid user live right = loose (Poked p false) (λ x. refl) (λ rs. refl) refl d.kernel user d.is.now
-    played_at (Begin p to line) d apart kid user live right = ran (Begin p to line) (λ x. refl) (λ rs. refl) refl d.kernel user _ _ d.is.was d.is.now refl
+    played_at (Begin p to reason) d apart kid user live right = ran (Begin p to reason) (λ x. refl) (λ rs. refl) refl d.kernel user _ _ d.is.was d.is.now refl
     played_at (Keep p to line) d apart kid user live right =
         let x = keep_user (record { to = to; line = line }) s in
         idle (Keep p to line) (λ x. refl) (λ rs. refl) d.kernel user (ap user_of d.is.now ∙ x) (λ c h. none_child c _ h)
@@ -346,4 +346,5 @@ module _ (O : Ops) (S : Sound O) where
     played_at (Told p at source hops line poked) d apart kid user live right = loose (Told p at source hops line poked) (λ x. refl) (λ rs. refl) refl d.kernel user d.is.now
     played_at (Refused p to why line) d apart kid user live right = loose (Refused p to why line) (λ x. refl) (λ rs. refl) refl d.kernel user d.is.now
     played_at (Closed line) d apart kid user live right = loose (Closed line) (λ x. refl) (λ rs. refl) refl d.kernel user d.is.now
+    played_at (Gossips heard other) d apart kid user live right = loose (Gossips heard other) (λ x. refl) (λ rs. refl) refl d.kernel user d.is.now
     played_at (Strange p) d apart kid user live right = absurd d

@@ -1,25 +1,32 @@
 -- What a node can do without a letter is what is due there, by the events and the machine.
-use Rattle.std.proofs.Common.{◌≡◌, ◌≢◌, ℕ, ◌<◌, ◌≤◌, ◌⊎◌, inl, inr, Bool, true, false, not, cond, Option, Some, None, List, [], ◌∷◌, refl, sym, ap, ◌∙◌, subst}
+use Rattle.std.proofs.Common.{◌≡◌, ◌≢◌, ℕ, ◌-◌, ◌<◌, ◌≤◌, ◌⊎◌, inl, inr, Bool, true, false, not, cond, Option, Some, None, List, [], ◌∷◌, refl, sym, ap, ◌∙◌, subst}
 use Rattle.std.specs.Prelude.{slice_get}
 use Rattle.node_event.specs.declared.script.Order.{Order}
 use Rattle.node_event.specs.declared.script.Order.TheVariants as order
-use Rattle.run_tokens.specs.Ops.{Ops, Sound}
-use Rattle.run_tokens.specs.Deeds.{Noted}
-use Rattle.run_tokens.specs.Notes.{Turn, Body, Kept, Slot, Running, context}
-use Rattle.run_tokens.specs.Spots.{Spot, Nowhere, Runs, Calls, Holds, Pauses, Answered, Asks, Granted, Denied, Travels, InReply, Ended, call_at, slot_by}
-use Rattle.run_tokens.specs.Home.{live_of, HasEnded, unheld}
-use Rattle.run_tokens.specs.Needs.{Right, alive}
-use Rattle.run_tokens.specs.Does.{EnabledHere}
-use Rattle.run_tokens.specs.Cluster.{World, events}
-use Rattle.run_tokens.specs.Rests.{Kind, Retry, RunOn, NextLine, MayGoOn, RunsHere, LineReady, Applies, Finished, Busy}
-use Rattle.run_tokens.proofs.Talk.{same_numbers}
-use Rattle.run_tokens.proofs.Process.{cond_here, context_tells, call_tells}
-use Rattle.run_tokens.proofs.Stand.{Stands, Path}
+use Rattle.protocol.specs.Ops.{Ops, Sound}
+use Rattle.protocol.specs.Deeds.{Noted}
+use Rattle.protocol.specs.Notes.{Turn, Body, Kept, Slot, Running, context}
+use Rattle.protocol.specs.Spots.{Spot, Nowhere, Runs, Calls, Holds, Pauses, Answered, Asks, Granted, Denied, Travels, InReply, Ended, call_at, slot_by}
+use Rattle.protocol.specs.Home.{live_of, HasEnded, unheld}
+use Rattle.protocol.specs.Needs.{Right, alive}
+use Rattle.protocol.specs.Does.{EnabledHere, NoneRuns}
+use Rattle.protocol.specs.Cluster.{World, events}
+use Rattle.protocol.specs.Rests.{Kind, Retry, RunOn, NextLine, SendHalf, HalfReady, MayGoOn, RunsHere, LineReady, Applies, Finished, Busy}
+use Rattle.protocol.proofs.Talk.{same_numbers}
+use Rattle.protocol.proofs.Process.{cond_here, context_tells, call_tells}
+use Rattle.protocol.proofs.Stand.{Stands, Path}
 use Rattle.run_laws.specs.Machine.{MachineState}
 use Rattle.run_laws.specs.Facts.{Node, Facts, facts, is_held}
 use Rattle.run_laws.specs.ScriptLaw.{commands, Enabled}
-use Rattle.run_laws.specs.Due.{Same, IsFree, CanGoOn, LineEnabled, DueAs, Due, LeastFull}
+use Rattle.run_laws.specs.Due.{Same, CanGoOn, LineEnabled, DueAs, Due, LeastFull}
 use Rattle.run_laws.specs.Ends.{IsDone}
+use Rattle.run_laws.specs.Pages.{used_pages}
+use Rattle.run_laws.specs.Loads.{IsFree, load_at}
+use Rattle.run_laws.specs.GossipLaw.{HalfIsDue}
+use Rattle.run_laws.specs.Vectors.{exchanged}
+use Rattle.run_laws.proofs.HalfTargets.{target_near}
+use Rattle.run_laws.proofs.Here.{load_told, used_told, loaded_at, used_at}
+use Rattle.run_laws.proofs.Exchanged.{due_same, path_exchanged}
 use Rattle.run_laws.proofs.Facts.{facts_of, path_tells}
 use Rattle.run_laws.proofs.Held.{held_same}
 use Rattle.run_laws.proofs.Replay.{user_of}
@@ -181,9 +188,42 @@ module _ (O : Ops) (S : Sound O) where
       enabled = enabled_back d.line.order d.enabled;
     }
 
+    told : (n : ℕ) → (exchanged O es).nodes n ≡ (w.nodes n).gossip
+    told n = (path_exchanged O S h sp w path).nodes n
+
+    pub none_free : (n : ℕ) → NoneRuns O (w.nodes n) → (p : ℕ) → IsFree O n p es m → ⊥
+    none_free n f p d = let x = due_run n p d in f p x.0 x.1
+
+    none_runs : (n : ℕ) → ((p : ℕ) → IsFree O n p es m → ⊥) → NoneRuns O (w.nodes n)
+    none_runs n f p b e = f p (run_due n p (b, e))
+
+    half_due : (n other : ℕ) → HalfReady O n other (w.nodes n) → HalfIsDue O n other es m
+    half_due n other d =
+        let load = load_told O S h sp w path st m agrees n d.load d.loaded in
+        let used = used_told O S h sp w path st m agrees n d.used d.in_use in
+        let t = target_near O n other d.load (O.cap - d.used) (NoneRuns O (w.nodes n)) (w.nodes n).gossip d.many d.due in record {
+          here = d.below;
+          many = d.many;
+          below = t.0;
+          apart = t.1;
+          due = due_same O n other _ _ _ _ _ _ _ _ load (ap (λ (k : ℕ). O.cap - k) used) (none_free n) (sym (told n)) d.due;
+        }
+
+    due_half : (n other : ℕ) → HalfIsDue O n other es m → HalfReady O n other (w.nodes n)
+    due_half n other d = record {
+      below = d.here;
+      many = d.many;
+      load = load_at O n es m;
+      loaded = loaded_at O S h sp w path st m agrees n;
+      used = used_pages O n es m;
+      in_use = used_at O S h sp w path st m agrees n;
+      due = due_same O n other _ _ _ _ _ _ _ _ refl refl (none_runs n) (told n) d.due;
+    }
+
     pub kinds_due : (k : Kind) (n : ℕ) → Same (Applies O k n (w.nodes n)) (DueAs O k n es m)
     kinds_due (Retry p) n = (λ d. (d.0, retry_due n p d.0 d.1), λ d. (d.0, due_retry n p d.0 d.1))
     kinds_due (RunOn p) n = (λ d. run_due n p d, λ d. due_run n p d)
+    kinds_due (SendHalf other) n = (half_due n other, due_half n other)
     kinds_due NextLine n = (λ d. (d.0, line_due (subst (λ (k : ℕ). LineReady O (w.nodes k)) d.0 d.1)), λ d. (d.0, subst (λ (k : ℕ). LineReady O (w.nodes k)) (sym d.0) (due_line d.1)))
 
     pub busy_due : (n : ℕ) → Same (Busy O n w) (Due O n es m w)

@@ -2,16 +2,16 @@
 use Rattle.std.proofs.Common.{◌≡◌, ◌≢◌, ℕ, Bool, true, false, cond, Option, Some, None, List, [], ◌∷◌, refl, sym, ap, ◌∙◌, subst}
 use Rattle.std.specs.Prelude.{ℤ}
 use Rattle.call_table.specs.declared.process.End.{End}
-use Rattle.run_tokens.specs.Ops.{Ops, Sound, IsMove}
-use Rattle.run_tokens.specs.Deeds.{Manner, Did, Broke, Fell, Paused, Deed, Run, Kill, Bid, Unsent, Other, Steps, Sent, Heed, Held, Served, Got, Poked, Begin, Keep, Missed, Again, Allows, Denies, Depart, Stay, Land, Told, Refused, Closed, Strange, Noted, pid_of, child_of}
-use Rattle.run_tokens.specs.Notes.{Done, Turn, Body, Kept, Local}
-use Rattle.run_tokens.specs.Spots.{Spot, Nowhere, Runs, Calls, Holds, Pauses, Answered, Asks, Granted, Denied, Travels, InReply, Ended}
-use Rattle.run_tokens.specs.Home.{returned, after, done_of, last}
-use Rattle.run_tokens.specs.Cluster.{World, events}
-use Rattle.run_tokens.specs.Needs.{Names, Needs, ServedSo, ServedCall, got_spot, asked, mark, keep_in, born_spot}
-use Rattle.run_tokens.proofs.Talk.{same_numbers, other_numbers}
-use Rattle.run_tokens.proofs.Coupling.{Part, Own, Child, Rest, part, at_own, at_child, at_rest}
-use Rattle.run_tokens.proofs.Stand.{Path, names_at}
+use Rattle.protocol.specs.Ops.{Ops, Sound, IsMove}
+use Rattle.protocol.specs.Deeds.{Manner, Did, Broke, Fell, Paused, Deed, Run, Kill, Bid, Unsent, Other, Steps, Sent, Heed, Held, Served, Got, Poked, Begin, Keep, Missed, Again, Allows, Denies, Depart, Stay, Land, Told, Refused, Closed, Gossips, Strange, Noted, pid_of, child_of}
+use Rattle.protocol.specs.Notes.{Done, Turn, Body, Kept, Local}
+use Rattle.protocol.specs.Spots.{Spot, Nowhere, Runs, Calls, Holds, Pauses, Answered, Asks, Granted, Denied, Travels, InReply, Ended}
+use Rattle.protocol.specs.Home.{returned, after, done_of, last}
+use Rattle.protocol.specs.Cluster.{World, events}
+use Rattle.protocol.specs.Needs.{Names, Needs, ServedSo, ServedCall, got_spot, asked, mark, keep_in, born_spot}
+use Rattle.protocol.proofs.Talk.{same_numbers, other_numbers}
+use Rattle.protocol.proofs.Coupling.{Part, Own, Child, Rest, part, at_own, at_child, at_rest}
+use Rattle.protocol.proofs.Stand.{Path, names_at}
 use Rattle.run_laws.specs.Owned.{stops, as_of_stop, HasUser}
 use Rattle.run_laws.proofs.Plays.{at_replay, with_some}
 use Rattle.run_laws.proofs.Replay.{user_of}
@@ -31,7 +31,7 @@ stops_other q (Held p k) ne = refl
 stops_other q (Served p manner number value child signal ends more poked) ne = refl
 stops_other q (Got p child ended kept) ne = refl
 stops_other q (Poked p used) ne = refl
-stops_other q (Begin p to line) ne = refl
+stops_other q (Begin p to reason) ne = refl
 stops_other q (Keep p to line) ne = refl
 stops_other q (Missed p to line) ne = refl
 stops_other q (Again p to place line) ne = refl
@@ -43,6 +43,7 @@ stops_other q (Land p source) ne = refl
 stops_other q (Told p at source hops line poked) ne = refl
 stops_other q (Refused p to why line) ne = refl
 stops_other q (Closed line) ne = refl
+stops_other q (Gossips heard other) ne = refl
 stops_other q (Strange p) ne = refl
 
 module _ (O : Ops) (S : Sound O) where
@@ -137,7 +138,7 @@ module _ (O : Ops) (S : Sound O) where
     own_sleeps (Got p child ended kept) e d is x = by p _ _ d.is.was d.is.now (λ z. got_sleeps p P n d.is.body d.is.keeps d.is.done) x
     own_sleeps (Poked p true) e d is x = subst (Sleeps p P) (sym d.is.now) (mark_sleeps p P s x)
     own_sleeps (Poked p false) e d is x = by p _ _ refl d.is.now (λ z. z) x
-    own_sleeps (Begin p to line) e d is x = by p _ _ d.is.was d.is.now (λ z. tt) x
+    own_sleeps (Begin p to reason) e d is x = by p _ _ d.is.was d.is.now (λ z. tt) x
     own_sleeps (Keep p to line) e d is x = subst (Sleeps p P) (sym d.is.now) (keep_sleeps p P (record { to = to; line = line }) s is x)
     own_sleeps (Missed p to line) e d is x = by p _ _ refl d.is.now (λ z. z) x
     own_sleeps (Again p to place line) e d is x = by p _ _ refl d.is.now (λ z. z) x
@@ -149,6 +150,7 @@ module _ (O : Ops) (S : Sound O) where
     own_sleeps (Told p at source hops line poked) e d is x = by p _ _ refl d.is.now (λ z. z) x
     own_sleeps (Refused p to why line) e d is x = by p _ _ refl d.is.now (λ z. z) x
     own_sleeps (Closed line) e d is x = by 0 _ _ refl d.is.now (λ z. z) x
+    own_sleeps (Gossips heard other) e d is x = by 0 _ _ refl d.is.now (λ z. z) x
     own_sleeps (Strange p) e d is x = absurd d
 
     -- and one of a process that does
@@ -165,7 +167,7 @@ module _ (O : Ops) (S : Sound O) where
     stop_sleeps (Served p manner number value child signal ends more poked) e d put = absurd cc
     stop_sleeps (Got p child ended kept) e d put = absurd cc
     stop_sleeps (Poked p used) e d put = absurd cc
-    stop_sleeps (Begin p to line) e d put = absurd cc
+    stop_sleeps (Begin p to reason) e d put = absurd cc
     stop_sleeps (Keep p to line) e d put = absurd cc
     stop_sleeps (Missed p to line) e d put = absurd cc
     stop_sleeps (Again p to place line) e d put = absurd cc
@@ -177,6 +179,7 @@ module _ (O : Ops) (S : Sound O) where
     stop_sleeps (Told p at source hops line poked) e d put = absurd cc
     stop_sleeps (Refused p to why line) e d put = absurd cc
     stop_sleeps (Closed line) e d put = absurd cc
+    stop_sleeps (Gossips heard other) e d put = absurd cc
     stop_sleeps (Strange p) e d put = absurd cc
 
   -- a child that is born does not wait
@@ -193,7 +196,7 @@ module _ (O : Ops) (S : Sound O) where
   born_sleeps P q (Heed p) n s c e = absurd cc
   born_sleeps P q (Held p k) n s c e = absurd cc
   born_sleeps P q (Poked p used) n s c e = absurd cc
-  born_sleeps P q (Begin p to line) n s c e = absurd cc
+  born_sleeps P q (Begin p to reason) n s c e = absurd cc
   born_sleeps P q (Keep p to line) n s c e = absurd cc
   born_sleeps P q (Missed p to line) n s c e = absurd cc
   born_sleeps P q (Again p to place line) n s c e = absurd cc
@@ -205,6 +208,7 @@ module _ (O : Ops) (S : Sound O) where
   born_sleeps P q (Told p at source hops line poked) n s c e = absurd cc
   born_sleeps P q (Refused p to why line) n s c e = absurd cc
   born_sleeps P q (Closed line) n s c e = absurd cc
+  born_sleeps P q (Gossips heard other) n s c e = absurd cc
   born_sleeps P q (Strange p) n s c e = absurd cc
 
   -- the machine has the user state that the spot tells

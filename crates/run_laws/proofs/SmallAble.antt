@@ -1,9 +1,9 @@
 -- The small machine can go on wherever it does not ask, and so can its move script.
-use Rattle.std.proofs.Common.{◌≡◌, ◌≢◌, ◌<◌, ◌≤◌, ℕ, zero, suc, ◌+◌, true, Option, Some, None, List, [], ◌∷◌, refl, ap, ◌∙◌, subst, arith}
+use Rattle.std.proofs.Common.{◌≡◌, ◌≢◌, ◌<◌, ℕ, zero, suc, ◌+◌, true, Option, Some, None, List, [], ◌∷◌, refl, ap, ◌∙◌, subst, arith}
 use Rattle.std.specs.Prelude.{slice_get, nat_lt}
 use Rattle.node_event.specs.declared.script.Order.TheVariants as order
 use Rattle.node_event.specs.declared.script.ScriptLine.{ScriptLine}
-use Rattle.run_tokens.specs.Deeds.{runs_before, feeds_before}
+use Rattle.protocol.specs.Deeds.{runs_before, feeds_before}
 use Rattle.run_laws.specs.SmallMachine.{Program, Thing, Goes, Calls, gone, with_todo, asked}
 use Rattle.run_laws.specs.Histories.{move_script, mover}
 use Rattle.run_laws.specs.Going.{Able}
@@ -34,7 +34,6 @@ two = record { line = 2; order = order.Move 1 1 }
 
 pub mover_able : Able mover
 mover_able = record {
-  first = λ s e. (let same : one ≡ s = cc in subst (λ (x : ScriptLine). 1 ≤ x.line) same (omega arith));
   rising = rising;
   image = image;
   text = text;

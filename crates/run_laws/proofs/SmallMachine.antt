@@ -1,14 +1,16 @@
 -- The facts of the small machine.
-use Rattle.std.proofs.Common.{arith, ◌≡◌, ◌<◌, ◌≢◌, ℕ, ◌+◌, ◌==◌, Bool, true, false, cond, Option, Some, None, List, refl, sym, ap, ◌∙◌}
+use Rattle.std.proofs.Common.{arith, ◌≡◌, ◌<◌, ◌≤◌, ◌≢◌, ℕ, ◌+◌, ◌==◌, Bool, true, false, cond, Option, Some, None, List, refl, sym, ap, ◌∙◌}
 use Rattle.std.specs.Prelude.{ℤ, nat_lt, slice_get}
 use Rattle.std.proofs.lemmas.Bool.Decides.{nat_tests}
 use Rattle.call_table.specs.declared.process.End.{End}
+use Rattle.call_table.specs.declared.process.End.TheVariants as end
 use Rattle.node_event.specs.declared.script.ScriptLine.{ScriptLine}
-use Rattle.run_tokens.specs.Ops.{Sound, IsMove, Acted, is_child, counted}
-use Rattle.run_tokens.specs.Deeds.{order_at}
-use Rattle.run_laws.specs.SmallMachine.{Request, ExitCall, ForkCall, ReadCall, WriteCall, KillCall, FaultAt, Thing, Program, Table, grown, gone, with_todo, living, launch_by, fork_by, hit_by, raised_at, served_by, signal_or, taken_by, small, end_by}
-use Rattle.run_tokens.proofs.Talk.{same_numbers}
-use Rattle.run_tokens.proofs.Process.{cond_here, cond_off}
+use Rattle.protocol.specs.Ops.{Sound, IsMove, Acted, is_child, counted}
+use Rattle.protocol.specs.Gossip.{Sight, Choice, IsKnown, IsMovable}
+use Rattle.protocol.specs.Deeds.{order_at}
+use Rattle.run_laws.specs.SmallMachine.{Request, ExitCall, ForkCall, ReadCall, WriteCall, KillCall, FaultAt, Thing, Program, Table, grown, ended, gone, with_todo, living, launch_by, fork_by, hit_by, raised_at, served_by, signal_or, taken_by, no_choice, small_of, small, end_by}
+use Rattle.protocol.proofs.Talk.{same_numbers}
+use Rattle.protocol.proofs.Process.{cond_here, cond_off}
 
 some_table : (k l : Table) → Some k ≡ Some l → k ≡ l
 some_table k l e = cc
@@ -43,10 +45,10 @@ lowest_alive true o s e = refl
 lowest_alive false o s e = absurd cc
 
 serve_count : (k : Table) (p : ℕ) (r : Request) (d : Acted Table ℤ) → served_by k p r ≡ Some d → d.kernel.count ≡ counted d.child k.count
-serve_count k p (ExitCall code) d e = let x = some_acted _ d e in ap (λ (z : Acted Table ℤ). z.kernel.count) (sym x) ∙ ap (λ (z : Acted Table ℤ). counted z.child k.count) x
+serve_count k p (ExitCall code) d e = let x = some_acted _ d e in ap (λ (z : Acted Table ℤ). z.kernel.count) (sym x) ∙ (raised_count ((ended p (end.Exit code) k).alive (k.parent p)) (k.parent p) 17 (ended p (end.Exit code) k) ∙ ap (λ (z : Acted Table ℤ). counted z.child k.count) x)
 serve_count k p ForkCall d e = go (nat_lt (living k) 64) e
   where
-    go : (b : Bool) → Some (fork_by b k) ≡ Some d → d.kernel.count ≡ counted d.child k.count
+    go : (b : Bool) → Some (fork_by b p k) ≡ Some d → d.kernel.count ≡ counted d.child k.count
     go true e = let x = some_acted _ d e in ap (λ (z : Acted Table ℤ). z.kernel.count) (sym x) ∙ ap (λ (z : Acted Table ℤ). counted z.child k.count) x
     go false e = let x = some_acted _ d e in ap (λ (z : Acted Table ℤ). z.kernel.count) (sym x) ∙ ap (λ (z : Acted Table ℤ). counted z.child k.count) x
 serve_count k p ReadCall d e = absurd cc
@@ -58,7 +60,7 @@ serve_child : (k : Table) (p : ℕ) (r : Request) (d : Acted Table ℤ) (c : ℕ
 serve_child k p (ExitCall code) d c e f = let z : None ≡ Some c = ap (λ (z : Acted Table ℤ). z.child) (some_acted _ d e) ∙ f in absurd cc
 serve_child k p ForkCall d c e f = go (nat_lt (living k) 64) e
   where
-    go : (b : Bool) → Some (fork_by b k) ≡ Some d → c ≡ k.count + 1
+    go : (b : Bool) → Some (fork_by b p k) ≡ Some d → c ≡ k.count + 1
     go true e = sym (some_child (k.count + 1) c (ap (λ (z : Acted Table ℤ). z.child) (some_acted _ d e) ∙ f))
     go false e = let z : None ≡ Some c = ap (λ (z : Acted Table ℤ). z.child) (some_acted _ d e) ∙ f in absurd cc
 serve_child k p ReadCall d c e f = absurd cc
@@ -67,10 +69,10 @@ serve_child k p (KillCall q s) d c e f = let z : None ≡ Some c = ap (λ (z : A
 serve_child k p (FaultAt s) d c e f = absurd cc
 
 serve_alive : (k : Table) (p : ℕ) (r : Request) (d : Acted Table ℤ) (q : ℕ) → served_by k p r ≡ Some d → q ≢ p → is_child d.child q ≡ false → d.kernel.alive q ≡ k.alive q
-serve_alive k p (ExitCall code) d q e ne h = ap (λ (z : Acted Table ℤ). z.kernel.alive q) (sym (some_acted _ d e)) ∙ cond_off q p false (k.alive q) ne
+serve_alive k p (ExitCall code) d q e ne h = ap (λ (z : Acted Table ℤ). z.kernel.alive q) (sym (some_acted _ d e)) ∙ (raised_alive ((ended p (end.Exit code) k).alive (k.parent p)) (k.parent p) 17 q (ended p (end.Exit code) k) ∙ cond_off q p false (k.alive q) ne)
 serve_alive k p ForkCall d q e ne h = go (nat_lt (living k) 64) e
   where
-    go : (b : Bool) → Some (fork_by b k) ≡ Some d → d.kernel.alive q ≡ k.alive q
+    go : (b : Bool) → Some (fork_by b p k) ≡ Some d → d.kernel.alive q ≡ k.alive q
     go true e = ap (λ (z : Acted Table ℤ). z.kernel.alive q) (sym (some_acted _ d e)) ∙ cond_off q (k.count + 1) true (k.alive q) (child_apart (k.count + 1) q (ap (λ (z : Acted Table ℤ). is_child z.child q) (some_acted _ d e) ∙ h))
     go false e = ap (λ (z : Acted Table ℤ). z.kernel.alive q) (sym (some_acted _ d e))
 serve_alive k p ReadCall d q e ne h = absurd cc
@@ -82,7 +84,7 @@ serve_born : (k : Table) (p : ℕ) (r : Request) (d : Acted Table ℤ) (c : ℕ)
 serve_born k p (ExitCall code) d c e f = let z : None ≡ Some c = ap (λ (z : Acted Table ℤ). z.child) (some_acted _ d e) ∙ f in absurd cc
 serve_born k p ForkCall d c e f = go (nat_lt (living k) 64) e
   where
-    go : (b : Bool) → Some (fork_by b k) ≡ Some d → d.kernel.alive c ≡ true
+    go : (b : Bool) → Some (fork_by b p k) ≡ Some d → d.kernel.alive c ≡ true
     go true e =
         let same : k.count + 1 ≡ c = some_child (k.count + 1) c (ap (λ (z : Acted Table ℤ). z.child) (some_acted _ d e) ∙ f) in
         ap (λ (z : Acted Table ℤ). z.kernel.alive c) (sym (some_acted _ d e)) ∙ (ap (λ (x : ℕ). cond (x == k.count + 1) true (k.alive x)) (sym same) ∙ cond_here (k.count + 1) true (k.alive (k.count + 1)))
@@ -103,7 +105,7 @@ serve_few : (k : Table) (p : ℕ) (r : Request) (d : Acted Table ℤ) (c : ℕ) 
 serve_few k p (ExitCall code) d c e f = let z : None ≡ Some c = ap (λ (z : Acted Table ℤ). z.child) (some_acted _ d e) ∙ f in absurd cc
 serve_few k p ForkCall d c e f = go (nat_lt (living k) 64) refl e
   where
-    go : (b : Bool) → nat_lt (living k) 64 ≡ b → Some (fork_by b k) ≡ Some d → living k < 64
+    go : (b : Bool) → nat_lt (living k) 64 ≡ b → Some (fork_by b p k) ≡ Some d → living k < 64
     go true is e = lt_tells (living k) 64 is
     go false is e = let z : None ≡ Some c = ap (λ (z : Acted Table ℤ). z.child) (some_acted _ d e) ∙ f in absurd cc
 serve_few k p ReadCall d c e f = absurd cc
@@ -137,10 +139,13 @@ hit_cond true p q = refl
 hit_cond false p q = refl
 
 serve_quiet : (k : Table) (p : ℕ) (r : Request) (d : Acted Table ℤ) (q : ℕ) → served_by k p r ≡ Some d → q ≢ p → is_child d.child q ≡ false → is_child d.raised q ≡ false → cond (d.kernel.alive q) (d.kernel.pending q) None ≡ cond (k.alive q) (k.pending q) None
-serve_quiet k p (ExitCall code) d q e ne h g = ap (λ (z : Acted Table ℤ). cond (z.kernel.alive q) (z.kernel.pending q) None) (sym (some_acted _ d e)) ∙ ap (λ (b : Bool). cond b (k.pending q) None) (cond_off q p false (k.alive q) ne)
+serve_quiet k p (ExitCall code) d q e ne h g =
+    let gone : Table = ended p (end.Exit code) k in
+    ap (λ (z : Acted Table ℤ). cond (z.kernel.alive q) (z.kernel.pending q) None) (sym (some_acted _ d e))
+    ∙ (raise_quiet (gone.alive (k.parent p)) gone (k.parent p) 17 q (sym (hit_cond (gone.alive (k.parent p)) (k.parent p) q) ∙ (ap (λ (z : Acted Table ℤ). is_child z.raised q) (some_acted _ d e) ∙ g)) ∙ ap (λ (b : Bool). cond b (k.pending q) None) (cond_off q p false (k.alive q) ne))
 serve_quiet k p ForkCall d q e ne h g = go (nat_lt (living k) 64) e
   where
-    go : (b : Bool) → Some (fork_by b k) ≡ Some d → cond (d.kernel.alive q) (d.kernel.pending q) None ≡ cond (k.alive q) (k.pending q) None
+    go : (b : Bool) → Some (fork_by b p k) ≡ Some d → cond (d.kernel.alive q) (d.kernel.pending q) None ≡ cond (k.alive q) (k.pending q) None
     go true e = ap (λ (z : Acted Table ℤ). cond (z.kernel.alive q) (z.kernel.pending q) None) (sym (some_acted _ d e)) ∙ ap (λ (b : Bool). cond b (k.pending q) None) (cond_off q (k.count + 1) true (k.alive q) (not_child (k.count + 1) q (ap (λ (z : Acted Table ℤ). is_child z.child q) (some_acted _ d e) ∙ h)))
     go false e = ap (λ (z : Acted Table ℤ). cond (z.kernel.alive q) (z.kernel.pending q) None) (sym (some_acted _ d e))
 serve_quiet k p ReadCall d q e ne h g = absurd cc
@@ -154,11 +159,11 @@ take_quiet : (b : Bool) (k : Table) (p q : ℕ) → q ≢ p → cond ((taken_by 
 take_quiet true k p q ne = (λ i. cond ((cond_off q p false (k.alive q) ne) i) ((cond_off q p None (k.pending q) ne) i) None)
 take_quiet false k p q ne = ap (λ (o : Option ℕ). cond (k.alive q) o None) (cond_off q p None (k.pending q) ne)
 
-pub sound : (script : List ScriptLine) (programs : List Program) → ((k : ℕ) (s : ScriptLine) → slice_get script k ≡ Some s → order_at s.line script ≡ Some s.order) → ((line p to : ℕ) → IsMove (small script programs) line p to → to < 2) → Sound (small script programs)
-sound script programs lines targets = record {
+pub sound_of : (nodes : ℕ) (policy : Sight → Option Choice) → 1 ≤ nodes → ((s : Sight) (c : Choice) → policy s ≡ Some c → IsMovable c.pid s.movable × IsKnown c.to s.known × (c.to ≢ s.node)) → (script : List ScriptLine) (programs : List Program) → ((k : ℕ) (s : ScriptLine) → slice_get script k ≡ Some s → order_at s.line script ≡ Some s.order) → ((line p to : ℕ) → IsMove (small_of nodes policy script programs) line p to → to < nodes) → Sound (small_of nodes policy script programs)
+sound_of nodes policy some chosen script programs lines targets = record {
   lines = lines;
   targets = targets;
-  some = omega arith;
+  some = some;
   count_new = refl;
   count_launch = λ k l e. ap (λ (x : Table). x.count) (sym (launched k l (nat_lt (living k) 64) refl e).0);
   count_raise = λ k p s. raised_count (k.alive p) p s k;
@@ -192,7 +197,8 @@ sound script programs lines targets = record {
   pid_given = λ u a. refl;
   pid_entered = λ u t. refl;
   pid_forked = λ u c. refl;
-  chosen = λ s c e. absurd cc;
+  answers = λ s. (policy s, refl);
+  chosen = λ s c e. chosen s c (sym e);
   fits_asks = λ u r e. refl;
   fits_serve = λ k p u r d a n e. refl;
   fits_broken = λ k p s u r a b c n e. refl;
@@ -202,3 +208,6 @@ sound script programs lines targets = record {
   pages_given = λ u a. refl;
   pages_entered = λ u t. refl;
 }
+
+pub sound : (script : List ScriptLine) (programs : List Program) → ((k : ℕ) (s : ScriptLine) → slice_get script k ≡ Some s → order_at s.line script ≡ Some s.order) → ((line p to : ℕ) → IsMove (small script programs) line p to → to < 2) → Sound (small script programs)
+sound script programs lines targets = sound_of 2 no_choice (omega arith) (λ s c e. absurd cc) script programs lines targets

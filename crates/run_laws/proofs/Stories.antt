@@ -3,8 +3,8 @@ use Rattle.std.proofs.Common.{◌≡◌, ℕ, zero, suc, ◌+◌, ◌<◌, ◌�
 use Rattle.std.specs.Prelude.{slice_get}
 use Rattle.node_event.specs.declared.script.Order.TheVariants as order
 use Rattle.node_event.specs.declared.script.ScriptLine.{ScriptLine}
-use Rattle.run_tokens.specs.Ops.{Sound}
-use Rattle.run_tokens.specs.Deeds.{order_at}
+use Rattle.protocol.specs.Ops.{Sound}
+use Rattle.protocol.specs.Deeds.{order_at}
 use Rattle.run_laws.specs.SmallMachine.{ExitCall, ForkCall, ReadCall, WriteCall}
 use Rattle.run_laws.specs.Facts.{Node, Link}
 use Rattle.run_laws.specs.Lawful.{Lawful}
@@ -39,6 +39,8 @@ hello_lawful = record {
   signal = (tt, (record { takes = refl; more_is = refl }, (tt, (tt, (tt, (record { takes = refl; more_is = refl }, (tt, (tt, (tt, tt)))))))));
   poke = (tt, (refl, (tt, (tt, (tt, (refl, (tt, (tt, (tt, tt)))))))));
   heed = (tt, (tt, (refl, (refl, (tt, (tt, (refl, (refl, (tt, tt)))))))));
+  gossip = (tt, (tt, (tt, ((λ z. omega arith), (tt, (tt, (tt, ((λ z. omega arith), (tt, tt)))))))));
+  choice = (tt, (tt, (tt, (tt, (tt, (tt, (tt, (tt, (tt, tt)))))))));
 }
 
 pub fork_lawful : Lawful forker (read fork_script fork_events)
@@ -51,6 +53,8 @@ fork_lawful = record {
   signal = (tt, (record { takes = refl; more_is = refl }, (tt, (tt, (record { takes = refl; more_is = refl }, (tt, (tt, tt)))))));
   poke = (tt, (refl, (tt, (tt, (refl, (tt, (tt, tt)))))));
   heed = (tt, (tt, (refl, (tt, (tt, (refl, (tt, tt)))))));
+  gossip = (tt, (tt, (tt, (tt, (tt, (tt, (tt, tt)))))));
+  choice = (tt, (tt, (tt, (tt, (tt, (tt, (tt, tt)))))));
 }
 
 pub move_lawful : Lawful mover (read move_script move_events)
@@ -63,6 +67,8 @@ move_lawful = record {
   signal = (tt, (tt, (tt, (tt, (tt, (tt, (tt, (tt, tt))))))));
   poke = (tt, (refl, (tt, (tt, (tt, (tt, (tt, (tt, tt))))))));
   heed = (refl, (tt, (tt, (tt, (tt, (tt, (tt, (tt, tt))))))));
+  gossip = ((λ z. omega arith), (tt, (tt, (tt, (tt, (tt, (tt, (tt, tt))))))));
+  choice = (tt, (tt, (tt, (tt, (tt, (tt, (tt, (tt, tt))))))));
 }
 
 pub break_lawful : Lawful breaker (read break_script break_events)
@@ -75,6 +81,8 @@ break_lawful = record {
   signal = (tt, (record { takes = refl; more_is = refl }, (tt, (tt, (tt, (tt, tt))))));
   poke = (tt, (refl, (refl, (tt, (tt, (tt, tt))))));
   heed = (tt, (tt, (tt, (tt, (refl, (tt, tt))))));
+  gossip = (tt, (tt, (tt, (tt, (tt, (tt, tt))))));
+  choice = (tt, (tt, (tt, (tt, (tt, (tt, tt))))));
 }
 
 pub poke_lawful : Lawful poker (read poke_script poke_events)
@@ -87,6 +95,8 @@ poke_lawful = record {
   signal = (tt, (tt, (record { takes = refl; more_is = refl }, (tt, (tt, (tt, (tt, tt)))))));
   poke = (tt, (tt, (refl, (tt, (tt, (refl, (tt, tt)))))));
   heed = (refl, (tt, (tt, (refl, ((refl, refl), (tt, (tt, tt)))))));
+  gossip = ((λ z. omega arith), (tt, (tt, (tt, (tt, (tt, (tt, tt)))))));
+  choice = (tt, (tt, (tt, (tt, (tt, (tt, (tt, tt)))))));
 }
 
 -- the last one may be left out: what is left is a beginning of the run

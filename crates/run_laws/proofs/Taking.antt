@@ -3,18 +3,21 @@ use Rattle.std.proofs.Common.{◌≡◌, ◌≢◌, ℕ, ◌+◌, ◌<◌, ◌�
 use Rattle.std.specs.Prelude.{max, ◌-◌}
 use Rattle.std.proofs.lemmas.Bool.Decides.{leb_tells}
 use lib.Dec.{leb}
-use Rattle.run_tokens.specs.Ops.{Ops, Sound, Acted, is_child, sum_below}
-use Rattle.run_tokens.specs.Deeds.{Manner, Did, Broke, Fell, Paused, Gone, Moving, There, Deed, Sent, Held, Served, Got, Poked, Begin, Keep, Missed, Again, Allows, Denies, Depart, Stay, Land, Told, Refused, Closed}
-use Rattle.run_tokens.specs.Notes.{served_one, is_some, Note, Call, Pause, Reply, Poke, Half, Go, NotHere, Ask, Allow, Deny, Move, Landed, NoMove, Done, Post, letter, Turn, Body, Kept, Context, context, State, Running, Waiting, Asking, Slot, Local, Way, way}
-use Rattle.run_tokens.specs.Spots.{Spot, Answered, Granted, Denied, slot_by, way_by, mine}
-use Rattle.run_tokens.specs.Home.{First, Last, first_none, last, done_of, value_of, pokes, born_at, line_closed}
-use Rattle.run_tokens.specs.Does.{Does, Makes, InUse, slot_pages, hosts, holds, reserves, lands, same, pokes_of, kept_told, got_context, got_posts, child_context, place_told}
-use Rattle.run_tokens.specs.Cluster.{World, for_link, at_front, Goes}
-use Rattle.run_tokens.proofs.Talk.{same_numbers, numbers_same, numbers_other, talk, on_link}
-use Rattle.run_tokens.proofs.Process.{cond_here, cond_off, cond_same, way_tells}
-use Rattle.run_tokens.proofs.Run.{Bound}
-use Rattle.run_tokens.proofs.Stand.{EachBound, Stands, Path}
+use Rattle.protocol.specs.Ops.{Ops, Sound, Acted, is_child}
+use Rattle.protocol.specs.Deeds.{ForLine, Chosen, Gossips, Manner, Did, Broke, Fell, Paused, Gone, Moving, There, Deed, Sent, Held, Served, Got, Poked, Begin, Keep, Missed, Again, Allows, Denies, Depart, Stay, Land, Told, Refused, Closed, Gossips}
+use Rattle.protocol.specs.Notes.{served_one, is_some, Note, Call, Pause, Reply, Poke, Half, Go, NotHere, Ask, Allow, Deny, Move, Landed, NoMove, Done, Post, letter, Turn, Body, Kept, Context, context, State, Running, Waiting, Asking, Slot, Local, Way, way}
+use Rattle.protocol.specs.Spots.{Spot, Answered, Granted, Denied, slot_by, way_by, mine}
+use Rattle.protocol.specs.Home.{First, Last, first_none, last, done_of, value_of, pokes, born_at, line_closed}
+use Rattle.protocol.specs.Does.{Does, Makes, InUse, Loaded, CanMove, seen, Talks, hosts, holds, reserves, lands, same, pokes_of, kept_told, got_context, got_posts, child_context, place_told}
+use Rattle.protocol.specs.Cluster.{World, for_link, at_front, Goes}
+use Rattle.protocol.proofs.Talk.{same_numbers, numbers_same, numbers_other, talk, on_link}
+use Rattle.protocol.proofs.Process.{cond_here, cond_off, cond_same, way_tells}
+use Rattle.protocol.proofs.Run.{Bound}
+use Rattle.protocol.proofs.Stand.{EachBound, Stands, Path}
+use Rattle.protocol.specs.Gossip.{Entry, Gossip, Choice, Movable, gossip_after}
+use Rattle.run_laws.proofs.Here.{can_run, loaded, in_use, can_move}
 use Rattle.run_laws.proofs.Near.{far_to}
+use Rattle.protocol.proofs.Progress.{itself}
 
 module _ (O : Ops) (S : Sound O) where
   -- a letter lies on the link from its sender to its target
@@ -86,18 +89,18 @@ module _ (O : Ops) (S : Sound O) where
               (record { home = home; from = from; stamp = stamp; request = r; number_is = refl; some = some; blocks = e; quiet = low; base = record { took = refl; posts = refl; slots = λ q. refl }; still = record { kernel = refl; believed = λ q. refl; progress = refl; gossip = refl } })
           quiet some e (Some s) low = let f : First O = record { kernel = old.kernel; answer = Some O.broken; child = None; raised = None } in
               makes (Call p r) (served Broke f) (letters f) (after f) refl
-              (inl (record { home = home; from = from; stamp = stamp; request = r; first = f; acts = (s, low, e, some, refl); answers = record { kernel = refl; value_is = refl; child_is = refl; signal_is = refl; end_is = refl; more_is = refl }; number_is = refl; tells = refl; base = record { took = refl; posts = refl; slots = λ q. sym (cond_same (q == p) (old.slots q)) }; gossip = refl; believed = λ q. refl; progress = refl }))
+              (inl (record { home = home; from = from; stamp = stamp; request = r; first = f; acts = (s, low, e, some, refl); answers = record { kernel = refl; value_is = refl; child_is = refl; signal_is = refl; end_is = refl; more_is = refl }; number_is = refl; tells = refl; base = record { took = refl; posts = refl; slots = λ q. sym (cond_same (q == p) (old.slots q)) }; gossip = refl; believed = λ q. refl; progress = itself _ }))
 
           by_serve : O.number r ≢ 0 → (o : Option (Acted O.Kernel O.Answer)) → O.serve old.kernel p r ≡ o → Made (Call p r)
           by_serve some None e = quiet some e (O.lowest old.kernel p) refl
           by_serve some (Some d) e = let f : First O = record { kernel = d.kernel; answer = Some d.answer; child = d.child; raised = d.raised } in
               makes (Call p r) (served Did f) (letters f) (after f) refl
-              (inl (record { home = home; from = from; stamp = stamp; request = r; first = f; acts = (d, e, some, refl); answers = record { kernel = refl; value_is = refl; child_is = refl; signal_is = refl; end_is = refl; more_is = refl }; number_is = refl; tells = refl; base = record { took = refl; posts = refl; slots = λ q. sym (cond_same (q == p) (old.slots q)) }; gossip = refl; believed = λ q. refl; progress = refl }))
+              (inl (record { home = home; from = from; stamp = stamp; request = r; first = f; acts = (d, e, some, refl); answers = record { kernel = refl; value_is = refl; child_is = refl; signal_is = refl; end_is = refl; more_is = refl }; number_is = refl; tells = refl; base = record { took = refl; posts = refl; slots = λ q. sym (cond_same (q == p) (old.slots q)) }; gossip = refl; believed = λ q. refl; progress = itself _ }))
 
           by_number : (b : Bool) → (O.number r == 0) ≡ b → Made (Call p r)
           by_number true e = let f : First O = record { kernel = (O.fall old.kernel p r).kernel; answer = None; child = None; raised = (O.fall old.kernel p r).raised } in
               makes (Call p r) (served Fell f) (letters f) (after f) refl
-              (record { home = home; from = from; stamp = stamp; request = r; first = f; acts = (numbers_same (O.number r) 0 e, refl); answers = record { kernel = refl; value_is = refl; child_is = refl; signal_is = refl; end_is = refl; more_is = refl }; number_is = refl; tells = refl; base = record { took = refl; posts = refl; slots = λ q. sym (cond_same (q == p) (old.slots q)) }; gossip = refl; believed = λ q. refl; progress = refl })
+              (record { home = home; from = from; stamp = stamp; request = r; first = f; acts = (numbers_same (O.number r) 0 e, refl); answers = record { kernel = refl; value_is = refl; child_is = refl; signal_is = refl; end_is = refl; more_is = refl }; number_is = refl; tells = refl; base = record { took = refl; posts = refl; slots = λ q. sym (cond_same (q == p) (old.slots q)) }; gossip = refl; believed = λ q. refl; progress = itself _ })
           by_number false e = by_serve (numbers_other (O.number r) 0 e) (O.serve old.kernel p r) refl
 
     -- Pause
@@ -121,11 +124,11 @@ module _ (O : Ops) (S : Sound O) where
     abbrev Here : ℕ → Option (Context O) → Type 0
     Here p o = (old.slots p).context ≡ o
 
-    poke_none : (p : ℕ) → Rattle.run_tokens.specs.Does.Asleep O (old.slots p).context → Made (Poke p)
+    poke_none : (p : ℕ) → Rattle.protocol.specs.Does.Asleep O (old.slots p).context → Made (Poke p)
     poke_none p asleep = makes (Poke p) (Poked p false) [] (with_slots old.slots) refl
         (record { from = from; stamp = stamp; asleep = asleep; base = record { took = refl; posts = refl; slots = λ q. sym (cond_same (q == p) (old.slots q)) }; still = record { kernel = refl; believed = λ q. refl; progress = refl; gossip = refl } })
 
-    poke_some : (p : ℕ) (b : Body O) (s : State) → Rattle.run_tokens.specs.Does.Awake O s → Here p (Some (context O b s)) → Made (Poke p)
+    poke_some : (p : ℕ) (b : Body O) (s : State) → Rattle.protocol.specs.Does.Awake O s → Here p (Some (context O b s)) → Made (Poke p)
     poke_some p b s awake was = makes (Poke p) (Poked p true) [] (with_slots (put p (hosts O (Some (context O (record b { poked = true }) s))))) refl
         (record { from = from; stamp = stamp; body = b; state = s; was = was; awake = awake; base = record { took = refl; posts = refl; slots = λ q. refl }; still = record { kernel = refl; believed = λ q. refl; progress = refl; gossip = refl } })
 
@@ -134,23 +137,23 @@ module _ (O : Ops) (S : Sound O) where
       where
         at : (b : Body O) (s : State) → Here p (Some (context O b s)) → Made (Poke p)
         at b Running e = poke_some p b Running tt e
-        at b (Waiting x k) e = poke_none p (subst (Rattle.run_tokens.specs.Does.Asleep O) (sym e) (x, k, refl))
+        at b (Waiting x k) e = poke_none p (subst (Rattle.protocol.specs.Does.Asleep O) (sym e) (x, k, refl))
         at b (Asking to line) e = poke_some p b (Asking to line) tt e
 
         go : (o : Option (Context O)) → Here p o → Made (Poke p)
-        go None e = poke_none p (subst (Rattle.run_tokens.specs.Does.Asleep O) (sym e) tt)
+        go None e = poke_none p (subst (Rattle.protocol.specs.Does.Asleep O) (sym e) tt)
         go (Some c) e = at c.body c.state e
 
     go_made : (p to hops line : ℕ) → Made (Go p to hops line)
     go_made p to hops line = go (old.slots p).context refl
       where
-        refused : (why : Rattle.run_tokens.specs.Deeds.Why) → Rattle.run_tokens.specs.Does.RefusedFor O why n to (old.slots p).context → Made (Go p to hops line)
+        refused : (why : Rattle.protocol.specs.Deeds.Why) → Rattle.protocol.specs.Does.RefusedFor O why n to (old.slots p).context → Made (Go p to hops line)
         refused why was = makes (Go p to hops line) (Refused p to why line) (letter O n 0 (max old.clock stamp + 1) (NoMove line) ∷ []) (with_slots old.slots) refl
             (inl (record { from = from; stamp = stamp; hops = hops; was = was; base = record { took = refl; posts = refl; slots = λ q. sym (cond_same (q == p) (old.slots q)) }; still = record { kernel = refl; believed = λ q. refl; progress = refl; gossip = refl } }))
 
         begun : (b : Body O) → to ≢ n → Here p (Some (context O b Running)) → Made (Go p to hops line)
-        begun b away was = makes (Go p to hops line) (Begin p to line) (letter O n to (max old.clock stamp + 1) (Ask p (O.pages b.user)) ∷ []) (with_slots (put p (hosts O (Some (context O b (Asking to (Some line))))))) refl
-            (record { from = from; stamp = stamp; hops = hops; body = b; was = was; away = away; base = record { took = refl; posts = refl; slots = λ q. refl }; still = record { kernel = refl; believed = λ q. refl; progress = refl; gossip = refl } })
+        begun b away was = makes (Go p to hops line) (Begin p to (ForLine line)) (letter O n to (max old.clock stamp + 1) (Ask p (O.pages b.user)) ∷ []) (with_slots (put p (hosts O (Some (context O b (Asking to (Some line))))))) refl
+            (record { body = b; was = was; away = away; why = record { from = from; stamp = stamp; hops = hops; gossip = refl }; base = record { took = refl; posts = refl; slots = λ q. refl }; still = record { kernel = refl; believed = λ q. refl; progress = refl } })
 
         kept : (b : Body O) (x : Bool) → to ≢ n → Here p (Some (context O b (Waiting x None))) → Made (Go p to hops line)
         kept b x away was = makes (Go p to hops line) (Keep p to line) [] (with_slots (put p (hosts O (Some (context O b (Waiting x (Some (record { to = to; line = line })))))))) refl
@@ -173,7 +176,7 @@ module _ (O : Ops) (S : Sound O) where
     back_made : n ≡ 0 → (p to hops line : ℕ) → Made (NotHere p to hops line)
     back_made home p to hops line = by_live (O.live old.kernel p) refl (leb_tells (old.believed p).hops hops)
       where
-        refused : (why : Rattle.run_tokens.specs.Deeds.Why) → Rattle.run_tokens.specs.Does.NoNews O why p hops old → Made (NotHere p to hops line)
+        refused : (why : Rattle.protocol.specs.Deeds.Why) → Rattle.protocol.specs.Does.NoNews O why p hops old → Made (NotHere p to hops line)
         refused why was = makes (NotHere p to hops line) (Refused p to why line) [] (with_slots old.slots) refl
             (inr (record { home = home; from = from; stamp = stamp; hops = hops; was = was; base = record { took = refl; posts = refl; slots = λ q. sym (cond_same (q == p) (old.slots q)) }; still = record { kernel = refl; believed = λ q. refl; progress = refl; gossip = refl } }))
 
@@ -222,6 +225,46 @@ module _ (O : Ops) (S : Sound O) where
         go (inl x) = told false x.1
         go (inr x) = told true x.1
 
+    -- Half
+    module _ (places : List (Option Entry)) (load used : ℕ) (loaded : Loaded O old load) (in_use : InUse O old used) (movable : List Movable) (can_move : CanMove O old movable) where
+      abbrev own : Entry
+      own = record { node = n; load = load; free = O.cap - used; stamp = max old.clock stamp + 1 }
+
+      abbrev gossip : Gossip
+      gossip = gossip_after true (record { node = n; load = load; free = O.cap - used; stamp = max old.clock stamp + 1 }) places old.gossip
+
+      abbrev pub talks : (chosen : Option Choice) (t : Turn O) (new : Local O) → t.event.stamp ≡ max old.clock stamp + 1 → new.gossip ≡ gossip → O.Chooses (seen O n own gossip.vector movable) chosen → Talks O true n from chosen old t new
+      talks chosen t new is g chooses = record {
+        own = own;
+        places = places;
+        stamp = stamp;
+        used = used;
+        in_use = in_use;
+        loaded = loaded;
+        own_is = λ i. record { node = n; load = load; free = O.cap - used; stamp = (sym is) i };
+        sends = tt;
+        gossip = g;
+        movable = movable;
+        can_move = can_move;
+        chooses = subst (λ (k : Gossip). O.Chooses (seen O n own k.vector movable) chosen) (sym g) chooses;
+      }
+
+      hear_made : (chosen : Option Choice) → O.Chooses (seen O n own gossip.vector movable) chosen → Made (Half places)
+      hear_made None chooses =
+          let t : Turn O = turn (Half places) (Gossips true from) [] in
+          let new : Local O = record { clock = max old.clock stamp + 1; kernel = old.kernel; slots = old.slots; believed = old.believed; progress = old.progress; gossip = gossip } in
+          makes (Half places) (Gossips true from) [] new refl (record { talks = talks None t new refl refl chooses; base = record { took = refl; posts = refl; slots = λ q. sym (cond_same (q == 0) (old.slots q)) }; still = record { kernel = refl; believed = λ q. refl; progress = refl } })
+      hear_made (Some c) chooses =
+          let x = S.chosen _ c chooses in
+          let y = can_run O old movable can_move c.pid x.0 in
+          let ls : List (Post O) = letter O n c.to (max old.clock stamp + 1) (Ask c.pid (O.pages y.0.user)) ∷ [] in
+          let t : Turn O = turn (Half places) (Begin c.pid c.to (Chosen true from)) ls in
+          let new : Local O = record { clock = max old.clock stamp + 1; kernel = old.kernel; slots = put c.pid (hosts O (Some (context O y.0 (Asking c.to None)))); believed = old.believed; progress = old.progress; gossip = gossip } in
+          makes (Half places) (Begin c.pid c.to (Chosen true from)) ls new refl (record { body = y.0; was = y.1; away = x.2; why = talks (Some c) t new refl refl chooses; base = record { took = refl; posts = refl; slots = λ q. refl }; still = record { kernel = refl; believed = λ q. refl; progress = refl } })
+
+      half_made : Made (Half places)
+      half_made = let a = S.answers (seen O n own gossip.vector movable) in hear_made a.0 a.1
+
     -- NoMove
     close_made : n ≡ 0 → (line : ℕ) → Made (NoMove line)
     close_made home line = makes (NoMove line) (Closed line) [] (with_slots old.slots) refl
@@ -263,16 +306,6 @@ module _ (O : Ops) (S : Sound O) where
     context_at : (p : ℕ) (s : Spot O) (c : Context O) → sp p ≡ s → (slot_by O s b).context ≡ Some c → ((w.nodes b).slots p).context ≡ Some c
     context_at p s c e f = ap (λ (k : Slot O). k.context) ((st.at p).slots b) ∙ (ap (λ (k : Spot O). (slot_by O k b).context) e ∙ f)
 
-    abbrev used : ℕ
-    used = sum_below (O.count (w.nodes 0).kernel + 1) (λ p. slot_pages O ((w.nodes b).slots p))
-
-    in_use : InUse O (w.nodes b) used
-    in_use = record { bound = O.count (w.nodes 0).kernel + 1; beyond = λ p most. ap (slot_pages O) ((st.at p).slots b ∙ ap (λ (s : Spot O). slot_by O s b) (st.unborn p (omega (arith, most)))) ∙ none (b == 0); sum = refl }
-      where
-        none : (k : Bool) → slot_pages O (record { context = cond k None None; reserve = cond k None None; call = cond k None None }) ≡ 0
-        none true = refl
-        none false = refl
-
     abbrev Mine : Note O → Type 0
     Mine m = Made b (w.nodes b) below a l.stamp m
 
@@ -281,10 +314,10 @@ module _ (O : Ops) (S : Sound O) where
     made (Pause p r) e = let t = way_tells O p (sp p) _ (under p (Pause p r) e (same_numbers p p refl)) in pause_made b (w.nodes b) below a l.stamp t.3 p r
     made (Reply p d) e = let t = way_tells O p (sp p) _ (under p (Reply p d) e (same_numbers p p refl)) in reply_made b (w.nodes b) below a l.stamp p d t.0 t.2 t.1 (context_at p (Answered b t.0 t.1 d t.2 t.3) (context O t.0 (Waiting t.2 t.1)) t.4 (cond_here b _ None))
     made (Poke p) e = poke_made b (w.nodes b) below a l.stamp p
-    made (Half places) e = absurd (subst (λ (m : Note O). Bound O (O.count (w.nodes 0).kernel) m b) e bound)
+    made (Half places) e = half_made b (w.nodes b) below a l.stamp places _ _ (loaded O S sp w st b) (in_use O S sp w st b) _ (can_move O S sp w st b)
     made (Go p to hops line) e = go_made b (w.nodes b) below a l.stamp p to hops line
     made (NotHere p to hops line) e = back_made b (w.nodes b) below a l.stamp (subst (λ (m : Note O). Bound O (O.count (w.nodes 0).kernel) m b) e bound).0 p to hops line
-    made (Ask p need) e = ask_made b (w.nodes b) below a l.stamp p need used in_use
+    made (Ask p need) e = ask_made b (w.nodes b) below a l.stamp p need _ (in_use O S sp w st b)
     made (Allow p) e = let t = way_tells O p (sp p) _ (under p (Allow p) e (same_numbers p p refl)) in allow_made b (w.nodes b) below a l.stamp p t.0 t.1 (context_at p (Granted b t.0 a t.1 t.2) (context O t.0 (Asking a t.1)) t.3 (cond_here b _ None))
     made (Deny p need free) e = let t = way_tells O p (sp p) _ (under p (Deny p need free) e (same_numbers p p refl)) in deny_made b (w.nodes b) below a l.stamp p need free t.0 t.1 (context_at p (Denied b t.0 a t.1 need free) (context O t.0 (Asking a t.1)) t.2 (cond_here b _ None))
     made (Move p u hops line) e = move_made b (w.nodes b) below a l.stamp p u hops line

@@ -1,12 +1,12 @@
 -- The whole theorem over every run.
 use Rattle.std.proofs.Common.{List, ap, ◌∙◌}
-use Rattle.run_tokens.specs.Ops.{Ops, Sound}
-use Rattle.run_tokens.specs.Notes.{Turn, Running}
-use Rattle.run_tokens.specs.Cluster.{World, Reached}
-use Rattle.run_tokens.specs.Cluster.{events}
+use Rattle.protocol.specs.Ops.{Ops, Sound}
+use Rattle.protocol.specs.Notes.{Turn, Running}
+use Rattle.protocol.specs.Cluster.{World, Reached}
+use Rattle.protocol.specs.Cluster.{events}
 use Rattle.run_laws.specs.Whole.{Holds}
-use Rattle.run_tokens.proofs.Process.{context_tells}
-use Rattle.run_tokens.proofs.Stand.{reached_stands}
+use Rattle.protocol.proofs.Process.{context_tells}
+use Rattle.protocol.proofs.Stand.{reached_stands}
 use Rattle.run_laws.proofs.Replay.{user_of}
 use Rattle.run_laws.proofs.Played.{path_played}
 use Rattle.run_laws.proofs.Lawful.{path_lawful, path_silent, path_placed}
@@ -15,6 +15,8 @@ use Rattle.run_laws.proofs.Again.{path_lines_of_moves}
 use Rattle.run_laws.proofs.Asking.{path_asking}
 use Rattle.run_laws.proofs.Landings.{path_landings}
 use Rattle.run_laws.proofs.Grounds.{path_grounded}
+use Rattle.run_laws.proofs.HonestVectors.{honest_law}
+use Rattle.run_laws.proofs.Owning.{owned}
 use Rattle.run_laws.proofs.Plays.{at_replay}
 
 module _ (O : Ops) (S : Sound O) where
@@ -32,10 +34,12 @@ module _ (O : Ops) (S : Sound O) where
         };
         lawful = path_lawful O S h s.spots w s.path;
         silent = path_silent O S h s.spots w s.path;
+        honest = honest_law O (events O h);
         one_place = path_placed O S h s.spots w s.path s.stands;
         grounded = path_grounded O S h s.spots w s.path;
         move_lines = path_lines_of_moves O S h s.spots w s.path;
         asking = path_asking O S h s.spots w s.path;
         landings = path_landings O S h s.spots w s.path;
+        owned = owned O S h s.spots w s.path s.stands b.machine b.agrees;
         one_outcome = one_outcome O S h s.spots w s.path;
       }

@@ -1,13 +1,15 @@
 -- When an event is due at a node, said from the events and the machine.
-use Rattle.std.specs.Prelude.{◌≡◌, ◌≢◌, ◌⊎◌, ◌<◌, ℕ, true, false, Some, None, List, [], ◌∷◌, length, slice_get}
+use Rattle.std.specs.Prelude.{◌≡◌, ◌≢◌, ◌⊎◌, ◌<◌, ℕ, true, Some, None, List, length, slice_get}
 use Rattle.node_event.specs.declared.script.ScriptLine.{ScriptLine}
-use Rattle.run_tokens.specs.Ops.{Ops}
-use Rattle.run_tokens.specs.Deeds.{Noted}
-use Rattle.run_tokens.specs.Notes.{Turn}
-use Rattle.run_tokens.specs.Cluster.{World}
-use Rattle.run_tokens.specs.Rests.{Kind, Retry, RunOn, NextLine, Awaits}
+use Rattle.protocol.specs.Ops.{Ops}
+use Rattle.protocol.specs.Deeds.{Noted}
+use Rattle.protocol.specs.Notes.{Turn}
+use Rattle.protocol.specs.Cluster.{World}
+use Rattle.protocol.specs.Rests.{Kind, Retry, RunOn, NextLine, SendHalf, Awaits}
 use Rattle.run_laws.specs.Machine.{MachineState}
-use Rattle.run_laws.specs.Facts.{Node, facts, is_held}
+use Rattle.run_laws.specs.Facts.{facts, is_held}
+use Rattle.run_laws.specs.Loads.{IsFree}
+use Rattle.run_laws.specs.GossipLaw.{HalfIsDue}
 use Rattle.run_laws.specs.ScriptLaw.{commands, Enabled}
 use Rattle.run_laws.specs.OnceLaw.{Requests}
 use Rattle.run_laws.specs.Carried.{own_events, taken_on, posted_on}
@@ -23,13 +25,6 @@ pub record LeastFull (room n : ℕ) (es : List Noted) (more : ℕ → Type 0) : 
   pub least : (k : ℕ) → k < n → length (own_events k es) ≡ room → more k → ⊥
 
 module _ (O : Ops) where
-  -- n holds a live process that neither waits nor asks
-  pub record IsFree (n p : ℕ) (es : List Noted) (m : MachineState O) : Type 0 where
-    pub holder : (facts p es).places ≡ Node n ∷ []
-    pub live : O.live m.kernel p ≡ true
-    pub awake : (facts p es).waits ≡ false
-    pub settled : (facts p es).asks ≡ false
-
   -- a held call does not block, or a signal is deliverable
   pub record CanGoOn (p : ℕ) (es : List Noted) (m : MachineState O) : Type 0 where
     pub held : is_held (facts p es) ≡ true
@@ -46,8 +41,9 @@ module _ (O : Ops) where
   -- an event without a letter, of this kind, is due at n
   abbrev pub DueAs : Kind → ℕ → List Noted → MachineState O → Type 0
   DueAs (Retry p) n es m = (n ≡ 0) × CanGoOn p es m
-  DueAs (RunOn p) n es m = IsFree n p es m
+  DueAs (RunOn p) n es m = IsFree O n p es m
   DueAs NextLine n es m = (n ≡ 0) × LineEnabled es m
+  DueAs (SendHalf other) n es m = HalfIsDue O n other es m
 
   -- some turn posted a letter to n that no turn has taken
   abbrev pub Untaken : ℕ → List (Turn O) → Type 0

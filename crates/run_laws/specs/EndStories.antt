@@ -6,17 +6,17 @@ use Rattle.node_event.specs.declared.event.What.TheVariants as what
 use Rattle.node_event.specs.declared.event.Way.TheVariants as way
 use Rattle.node_event.specs.declared.script.Order.TheVariants as order
 use Rattle.node_event.specs.declared.script.ScriptLine.{ScriptLine}
-use Rattle.run_tokens.specs.Ops.{Ops}
-use Rattle.run_tokens.specs.Deeds.{Noted}
-use Rattle.run_tokens.specs.Cluster.{World}
-use Rattle.run_tokens.specs.Rests.{Kind, Retry}
+use Rattle.protocol.specs.Ops.{Ops}
+use Rattle.protocol.specs.Deeds.{Noted}
+use Rattle.protocol.specs.Cluster.{World}
+use Rattle.protocol.specs.Rests.{Kind, Retry}
 use Rattle.run_laws.specs.Machine.{MachineState}
 use Rattle.run_laws.specs.Schedule.{machine_at, With}
 use Rattle.run_laws.specs.Outcomes.{outcomes}
 use Rattle.run_laws.specs.Due.{DueAs, IsFull}
 use Rattle.run_laws.specs.Owned.{as_of_stop, HasUser}
 use Rattle.run_laws.specs.Ends.{IsDone, IsStuck, IsOpen, statuses}
-use Rattle.run_laws.specs.SmallMachine.{ExitCall, ReadCall, WriteCall, Goes, Calls, small}
+use Rattle.run_laws.specs.SmallMachine.{ExitCall, ReadCall, WriteCall, Goes, Calls, no_choice, small_of, small}
 use Rattle.run_laws.specs.Histories.{read, at, line, program, hello_script, hello, hello_events, break_script, breaker, move_script, mover, first_events}
 
 module _ (O : Ops) where
@@ -29,7 +29,7 @@ abbrev pub reader_script : List ScriptLine
 reader_script = line 1 (order.Run []) ∷ []
 
 abbrev pub reader : Ops
-reader = small reader_script (program (Calls ReadCall ∷ []) ∷ [])
+reader = small_of 1 no_choice reader_script (program (Calls ReadCall ∷ []) ∷ [])
 
 abbrev pub reader_events : List Event
 reader_events =
@@ -38,7 +38,7 @@ reader_events =
     ∷ at 3 0 (what.Held 1 8)
     ∷ []
 
--- and is to move meanwhile
+-- and is to move meanwhile, after each of two nodes has told the other of itself
 abbrev pub keeper_script : List ScriptLine
 keeper_script = line 1 (order.Run []) ∷ line 2 (order.Move 1 1) ∷ []
 
@@ -48,10 +48,14 @@ keeper = small keeper_script (program (Calls ReadCall ∷ []) ∷ [])
 abbrev pub keeper_events : List Event
 keeper_events =
     at 1 0 (what.Command 1 (Some 1) None None)
-    ∷ at 2 0 (what.Sent 1 8)
-    ∷ at 3 0 (what.Held 1 8)
-    ∷ at 4 0 (what.Command 2 None None None)
-    ∷ at 5 0 (what.Keep 1 1 2)
+    ∷ at 2 0 (what.Half 1 None None)
+    ∷ at 3 1 (what.Heard 0 None None)
+    ∷ at 4 1 (what.Half 0 None None)
+    ∷ at 5 0 (what.Heard 1 None None)
+    ∷ at 6 0 (what.Sent 1 8)
+    ∷ at 7 0 (what.Held 1 8)
+    ∷ at 8 0 (what.Command 2 None None None)
+    ∷ at 9 0 (what.Keep 1 1 2)
     ∷ []
 
 -- a held read that a signal has reached

@@ -1,13 +1,13 @@
 -- What holds of the end of a run, and of each moment before it. The events stand the newest first.
-use Rattle.std.specs.Prelude.{◌≡◌, ◌≤◌, false, ◌<◌, ◌⊎◌, ℕ, Some, None, List, ◌∷◌}
+use Rattle.std.specs.Prelude.{◌≡◌, ◌≤◌, false, ◌<◌, ℕ, Some, None, List, ◌∷◌}
 use Rattle.call_table.specs.declared.process.End.{End}
 use Rattle.call_table.specs.declared.process.PidState.TheVariants as states
-use Rattle.run_tokens.specs.Ops.{Ops}
-use Rattle.run_tokens.specs.Deeds.{Noted}
-use Rattle.run_tokens.specs.Notes.{Post, Turn, Local}
-use Rattle.run_tokens.specs.Does.{Makes}
-use Rattle.run_tokens.specs.Cluster.{World, Goes}
-use Rattle.run_tokens.specs.Rests.{Kind, Applies, HalfDue, Rests, Finished, Busy, AllRest}
+use Rattle.protocol.specs.Ops.{Ops}
+use Rattle.protocol.specs.Deeds.{Noted}
+use Rattle.protocol.specs.Notes.{Post, Turn, Local}
+use Rattle.protocol.specs.Does.{Makes}
+use Rattle.protocol.specs.Cluster.{World, Goes}
+use Rattle.protocol.specs.Rests.{Kind, Applies, IsHalf, Rests, Finished, Busy, AllRest}
 use Rattle.run_laws.specs.Machine.{MachineState, play}
 use Rattle.run_laws.specs.Schedule.{schedule}
 use Rattle.run_laws.specs.Due.{Same, DueAs, Due, LeastFull, IsFull}
@@ -28,8 +28,8 @@ module _ (O : Ops) where
     pub busy : (n : ℕ) → Same (Busy O n w) (Due O n es machine w)
     -- a turn without a letter is of a kind that applies, of each node alone: one that rests makes none
     pub turns : (n : ℕ) (old : Local O) (t : Turn O) (new : Local O) → t.taken ≡ None → Makes O n old t new → (k : Kind) × Applies O k n old
-    -- and where a kind applies such a turn can be made, if the machine and its script are able, unless a half is due before it
-    pub goes : Able O → (k : Kind) (n : ℕ) → n < O.nodes → Applies O k n (w.nodes n) → HalfDue O k (w.nodes n) ⊎ ((t : Turn O) × (v : World O) × Goes O w t v × (t.taken ≡ None) × (t.event.node ≡ n))
+    -- and where a kind applies such a turn can be made, if the machine and its script are able
+    pub goes : Able O → (k : Kind) (n : ℕ) → n < O.nodes → Applies O k n (w.nodes n) → (t : Turn O) × (v : World O) × Goes O w t v × (t.taken ≡ None) × (t.event.node ≡ n)
     -- so can one that takes a letter: the first on its link can be taken always
     pub takes : (a b : ℕ) (l : Post O) (rest : List (Post O)) → w.links a b ≡ l ∷ rest → (t : Turn O) × (v : World O) × Goes O w t v × (t.taken ≡ Some l) × (t.event.node ≡ b)
     -- the least node with a full journal that has something to do is the one at which an event is due
@@ -40,8 +40,8 @@ module _ (O : Ops) where
     pub ended : (p : ℕ) → 1 ≤ p → p ≤ O.count machine.kernel → O.live machine.kernel p ≡ false → (how : End) × (O.end_of machine.kernel p ≡ Some how) × (status O machine p ≡ end_state (Some how))
     -- home is finished exactly where the run is done
     pub finished : Same (Finished O (w.nodes 0)) (IsDone O es machine)
-    -- and then no event is due anywhere but by a letter
-    pub done_rests : IsDone O es machine → (k : Kind) (n : ℕ) → DueAs O k n es machine → ⊥
+    -- and then no event is due anywhere but by a letter, or a half
+    pub done_rests : IsDone O es machine → (k : Kind) (n : ℕ) → (IsHalf k → ⊥) → DueAs O k n es machine → ⊥
     -- where every link is empty and every node rests, no turn can be made
     pub still : AllRest O w → (t : Turn O) (v : World O) → Goes O w t v → ⊥
     -- and the run is done or stuck

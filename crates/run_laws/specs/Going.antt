@@ -2,12 +2,11 @@
 use Rattle.std.specs.Prelude.{◌≡◌, ◌≢◌, ◌≤◌, ◌<◌, ℕ, suc, ◌+◌, nat_lt, true, Some, None, List, slice_get}
 use Rattle.node_event.specs.declared.script.Order.TheVariants as order
 use Rattle.node_event.specs.declared.script.ScriptLine.{ScriptLine}
-use Rattle.run_tokens.specs.Ops.{Ops}
-use Rattle.run_tokens.specs.Deeds.{runs_before, feeds_before}
+use Rattle.protocol.specs.Ops.{Ops}
+use Rattle.protocol.specs.Deeds.{runs_before, feeds_before}
 
 pub record Able (O : Ops) : Type 0 where
-  -- the lines of the script rise, from 1 on
-  pub first : (s : ScriptLine) → slice_get O.script 0 ≡ Some s → 1 ≤ s.line
+  -- the lines of the script rise
   pub rising : (k : ℕ) (a b : ScriptLine) → slice_get O.script k ≡ Some a → slice_get O.script (suc k) ≡ Some b → a.line < b.line
   -- the setup has an image for each `run` line and a text for each `type` line, and a `kill` line names a signal
   pub image : (k : ℕ) (s : ScriptLine) → slice_get O.script k ≡ Some s → (words : List (List ℕ)) → s.order ≡ order.Run words → nat_lt (runs_before s.line O.script) O.images ≡ true

@@ -30,3 +30,11 @@ pub mod Owned
 pub mod Ending
 pub mod EndStories
 pub mod Going
+pub mod Loads
+pub mod Vectors
+pub mod GossipLaw
+pub mod ChoiceLaw
+pub mod Honest
+pub mod GossipStories
+pub mod WholeStory
+pub mod OneNode

@@ -1,10 +1,11 @@
 -- A small machine, on which histories are worked out. A program is a list of steps and calls. Of the kernel it has who lives and how who ended, and one pending
--- signal a process. Signal 9 ends, each other one is handled.
+-- signal a process. Signal 9 ends, each other one is handled. One that exits raises 17 at its parent.
 use Rattle.std.specs.Prelude.{◌≡◌, ℕ, zero, suc, ◌+◌, ◌==◌, ℤ, pos, negsuc, Bool, true, false, nat_lt, cond, Option, Some, None, List, [], ◌∷◌, length}
 use Rattle.call_table.specs.declared.process.End.{End}
 use Rattle.call_table.specs.declared.process.End.TheVariants as end
 use Rattle.node_event.specs.declared.script.ScriptLine.{ScriptLine}
-use Rattle.run_tokens.specs.Ops.{Ops, Acted, sum_below, one_if}
+use Rattle.protocol.specs.Ops.{Ops, Acted, sum_below, one_if}
+use Rattle.protocol.specs.Gossip.{Sight, Choice}
 
 pub data Request : Type 0 where
   ExitCall : (code : ℕ) → Request
@@ -70,18 +71,23 @@ pub record Table : Type 0 where
   pub alive : ℕ → Bool
   pub ends : ℕ → End
   pub pending : ℕ → Option ℕ
+  pub parent : ℕ → ℕ
 
 abbrev pub new_table : Table
-new_table = record { count = 0; alive = λ q. false; ends = λ q. end.Exit 0; pending = λ q. None }
+new_table = record { count = 0; alive = λ q. false; ends = λ q. end.Exit 0; pending = λ q. None; parent = λ q. 0 }
 
 abbrev pub grown : Table → Table
-grown k = record { count = k.count + 1; alive = λ q. cond (q == k.count + 1) true (k.alive q); ends = k.ends; pending = k.pending }
+grown k = record { count = k.count + 1; alive = λ q. cond (q == k.count + 1) true (k.alive q); ends = k.ends; pending = k.pending; parent = k.parent }
 
 abbrev pub ended : ℕ → End → Table → Table
-ended p how k = record { count = k.count; alive = λ q. cond (q == p) false (k.alive q); ends = λ q. cond (q == p) how (k.ends q); pending = k.pending }
+ended p how k = record { count = k.count; alive = λ q. cond (q == p) false (k.alive q); ends = λ q. cond (q == p) how (k.ends q); pending = k.pending; parent = k.parent }
 
 abbrev pub pends : ℕ → Option ℕ → Table → Table
-pends p s k = record { count = k.count; alive = k.alive; ends = k.ends; pending = λ q. cond (q == p) s (k.pending q) }
+pends p s k = record { count = k.count; alive = k.alive; ends = k.ends; pending = λ q. cond (q == p) s (k.pending q); parent = k.parent }
+
+-- a child of p
+abbrev pub born_to : ℕ → Table → Table
+born_to p k = record { count = k.count + 1; alive = λ q. cond (q == k.count + 1) true (k.alive q); ends = k.ends; pending = k.pending; parent = λ q. cond (q == k.count + 1) p (k.parent q) }
 
 -- one that lives has no end yet
 abbrev pub end_by : Bool → End → Option End
@@ -108,13 +114,17 @@ abbrev pub launch_by : Bool → Table → Option Table
 launch_by true k = Some (grown k)
 launch_by false k = None
 
-abbrev pub fork_by : Bool → Table → Acted Table ℤ
-fork_by true k = record { kernel = grown k; answer = pos (k.count + 1); child = Some (k.count + 1); raised = None }
-fork_by false k = plain k (negsuc 10)
+-- the parent of one that exits gets signal 17
+abbrev pub exit_by : ℕ → Table → Acted Table ℤ
+exit_by q k = record { kernel = raised_at (k.alive q) q 17 k; answer = pos 0; child = None; raised = hit_by (k.alive q) q }
+
+abbrev pub fork_by : Bool → ℕ → Table → Acted Table ℤ
+fork_by true p k = record { kernel = born_to p k; answer = pos (k.count + 1); child = Some (k.count + 1); raised = None }
+fork_by false p k = plain k (negsuc 10)
 
 abbrev pub served_by : Table → ℕ → Request → Option (Acted Table ℤ)
-served_by k p (ExitCall code) = Some (plain (ended p (end.Exit code) k) (pos 0))
-served_by k p ForkCall = Some (fork_by (nat_lt (living k) 64) k)
+served_by k p (ExitCall code) = Some (exit_by (k.parent p) (ended p (end.Exit code) k))
+served_by k p ForkCall = Some (fork_by (nat_lt (living k) 64) p k)
 served_by k p ReadCall = None
 served_by k p (WriteCall count) = Some (plain k (pos count))
 served_by k p (KillCall q s) = Some (record { kernel = raised_at (k.alive q) q s k; answer = pos 0; child = None; raised = hit_by (k.alive q) q })
@@ -133,8 +143,12 @@ abbrev pub fault_of : Request → ℕ
 fault_of (FaultAt s) = s
 fault_of _ = 0
 
-abbrev pub small : List ScriptLine → List Program → Ops
-small script programs = record {
+abbrev pub no_choice : Sight → Option Choice
+no_choice s = None
+
+-- of so many nodes, under this policy
+abbrev pub small_of : ℕ → (Sight → Option Choice) → List ScriptLine → List Program → Ops
+small_of nodes policy script programs = record {
   User = Program;
   Kernel = Table;
   Request = Request;
@@ -144,7 +158,7 @@ small script programs = record {
   images = length programs;
   texts = 0;
   loaded = λ i p. named p (program_at programs i);
-  nodes = 2;
+  nodes = nodes;
   cap = 4;
   quantum = 100;
   went = λ u k. with_todo u (gone u.todo k);
@@ -161,7 +175,7 @@ small script programs = record {
   fits_request = λ r. true;
   fits_answer = λ u a. true;
   fits_taken = λ u t. true;
-  Chooses = λ s o. o ≡ None;
+  Chooses = λ s o. o ≡ policy s;
   word = λ n k. 0;
   new_kernel = new_table;
   count = λ k. k.count;
@@ -180,3 +194,7 @@ small script programs = record {
   take = λ k p b. record { kernel = taken_by (signal_or (k.pending p) == 9) p k; taken = signal_or (k.pending p); raised = None };
   fall = λ k p r. record { kernel = ended p (end.Signal (fault_of r)) k; raised = None };
 }
+
+-- of two nodes, under a policy that moves nothing
+abbrev pub small : List ScriptLine → List Program → Ops
+small script programs = small_of 2 no_choice script programs

@@ -1,0 +1,12 @@
+pub mod Talk
+pub mod Process
+pub mod Own
+pub mod Run
+pub mod Quiet
+pub mod Coupling
+pub mod Alive
+pub mod Sums
+pub mod Stand
+pub mod Places
+pub mod Talking
+pub mod Progress
