@@ -62,35 +62,32 @@ is_same a b h = grind (arith, nat_tests)
 
 -- a row of a call that is not built is not taken
 not_built : (number call : ℕ) (b : Bool) (x y : Option Called) → (number == call) ≡ b → is_built call ≡ false → is_built number ≡ true → NoChild y → NoChild (cond b x y)
-not_built number call false x y e no yes h = h
-not_built number call true x y e no yes h = absurd (let f : false ≡ true = sym no ∙ ap is_built (sym (is_same number call e)) ∙ yes in cc)
-
-no_call : (number : ℕ) (k : KernelState) → NoChild (Some (answers k (pos number)))
-no_call number k = refl
+not_built number call false x y e unbuilt built h = h
+not_built number call true x y e unbuilt built h = absurd (let f : false ≡ true = sym unbuilt ∙ ap is_built (sym (is_same number call e)) ∙ built in cc)
 
 row_without : (number : ℕ) (k : KernelState) (pid : ℕ) (args bytes : List ℕ) → is_built number ≡ true → NoChild (call_row number k pid args bytes)
 unfolding call_row
-row_without number k pid args bytes yes =
+row_without number k pid args bytes built =
     either (number == EXIT) _ _ refl
-    (not_built number GETPPID (number == GETPPID) _ _ refl refl yes
-    (not_built number FORK (number == FORK) _ _ refl refl yes
-    (not_built number WAIT (number == WAIT) _ _ refl refl yes
+    (not_built number GETPPID (number == GETPPID) _ _ refl refl built
+    (not_built number FORK (number == FORK) _ _ refl refl built
+    (not_built number WAIT (number == WAIT) _ _ refl refl built
     (either (number == OPEN) _ _ refl
     (either (number == CLOSE) _ _ refl
     (either (number == READ) _ _ (read_look (look_at k.io.fds pid (slice_index args 0)) k pid (slice_index args 0) (slice_index args 2))
     (either (number == WRITE) _ _ (write_look (look_at k.io.fds pid (slice_index args 0)) k pid (slice_index args 0) bytes)
     (either (number == LSEEK) _ _ refl
-    (not_built number PIPE (number == PIPE) _ _ refl refl yes
+    (not_built number PIPE (number == PIPE) _ _ refl refl built
     (either (number == DUP) _ _ refl
     (either (number == UNLINK) _ _ refl
-    (not_built number KILL (number == KILL) _ _ refl refl yes
-    (not_built number SIGACT (number == SIGACT) _ _ refl refl yes
-    (not_built number SIGRETURN (number == SIGRETURN) _ _ refl refl yes
-    (not_built number SIGMASK (number == SIGMASK) _ _ refl refl yes
+    (not_built number KILL (number == KILL) _ _ refl refl built
+    (not_built number SIGACT (number == SIGACT) _ _ refl refl built
+    (not_built number SIGRETURN (number == SIGRETURN) _ _ refl refl built
+    (not_built number SIGMASK (number == SIGMASK) _ _ refl refl built
     (either (number == YIELD) _ _ refl refl))))))))))))))))
 
 call_without : (k : KernelState) (pid : ℕ) (asked : Request) → is_built asked.number ≡ true → NoChild (call_result k pid asked)
-call_without k pid asked yes = row_without asked.number k pid asked.args asked.bytes yes
+call_without k pid asked built = row_without asked.number k pid asked.args asked.bytes built
 
 same_given : (called : Option Called) (c : Called) (n : ℕ) → GivesPids called n → NoChild called → called ≡ Some c → given c.kernel ≡ n
 same_given None c n g h e = absurd (none-some c e)
@@ -101,7 +98,7 @@ same_given (Some d) c n g h e =
 
 -- a built call gives no pid
 pub built_gives : (k : KernelState) (pid : ℕ) (asked : Request) (c : Called) → is_built asked.number ≡ true → call_result k pid asked ≡ Some c → given c.kernel ≡ given k
-built_gives k pid asked c yes h = same_given (call_result k pid asked) c (given k) (call_gives k pid asked) (call_without k pid asked yes) h
+built_gives k pid asked c built h = same_given (call_result k pid asked) c (given k) (call_gives k pid asked) (call_without k pid asked built) h
 
 abbrev AnsweredKeeps : Option Answered → ℕ → Type 0
 AnsweredKeeps None n = Unit {0}

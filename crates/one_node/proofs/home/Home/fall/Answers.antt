@@ -4,7 +4,7 @@ use Rattle.one_node.proofs.home.Home.fall.Goals as goal
 
 pub returns-in-Some-clause-is : goal.returns-in-Some-clause-is
 returns-in-Some-clause-is c =
-    falls_in c.self.inside.kernel c.end_by.new.self c.self.inside.users.items c.fault_at.new.users.items c.self.inside.replies.items c.args.self.now c.args.pid _ c.in-Some.signal c.self.view_is
+    falls_in c.self.inside.kernel c.end_by.new.kernel c.self.inside.users.items c.fault_at.new.users.items c.self.inside.replies.items c.args.self.now c.args.pid _ c.in-Some.signal c.self.view_is
     (c.if-not-live.ensures.bounds refl).0 (c.if-not-live.ensures.live refl) refl c.in-Some.ensures.is c.end_by.ensures.is
 
 pub returns-in-None-clause-is : goal.returns-in-None-clause-is
