@@ -12,6 +12,7 @@ use std::{env, io};
 
 /// Lines of a script, and bytes of each before its newline.
 const LINES: usize = 1000;
+
 const LINE_BYTES: usize = 64;
 
 /// A line: a word, and a byte as often as there is room.
