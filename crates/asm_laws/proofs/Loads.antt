@@ -4,6 +4,7 @@ use Rattle.std.specs.List.{slice_split}
 use Rattle.std.specs.Option.{option_or}
 use Rattle.std.specs.FinMap as maps
 use Rattle.std.proofs.lemmas.Bool.Decides.{nat_tests, eqb_tells}
+use Rattle.call_table.specs.declared.limit.TheConstants.{PAGES}
 use Rattle.page_set.specs.Pages.{Page, PageMap}
 use Rattle.user_spec.specs.User.{UserState}
 use Rattle.user_spec.specs.Request.{page_above}
@@ -49,16 +50,16 @@ bad_entry bytes size words =
 -- ---- the parts of an image
 
 abbrev of_parts : Option ℕ → Option ℕ → ℕ → Bool → UserState → Result UserState ℕ
-of_parts header segment len bad u = image_or (option_or header (option_or segment (cond (nat_lt 1024 len) (Some 10) (cond bad (Some 11) None)))) u
+of_parts header segment len bad u = image_or (option_or header (option_or segment (cond (nat_lt PAGES len) (Some 10) (cond bad (Some 11) None)))) u
 
-not_many : (len : ℕ) → len ≤ 1024 → nat_lt 1024 len ≡ false
+not_many : (len : ℕ) → len ≤ PAGES → nat_lt PAGES len ≡ false
 not_many len h = grind (arith, nat_tests)
 
 by_size : (none : Bool) (u v : UserState) → (none ≡ false → u ≡ v) → image_or (cond none (Some 11) None) u ≡ cond none (Err 11) (Ok v)
 by_size true u v h = refl
 by_size false u v h = ap Ok (h refl)
 
-parts_load : (header segment : Option ℕ) (len : ℕ) (bad none : Bool) (u v : UserState) → header ≡ None → segment ≡ None → len ≤ 1024 → bad ≡ none → (none ≡ false → u ≡ v) → of_parts header segment len bad u ≡ cond none (Err 11) (Ok v)
+parts_load : (header segment : Option ℕ) (len : ℕ) (bad none : Bool) (u v : UserState) → header ≡ None → segment ≡ None → len ≤ PAGES → bad ≡ none → (none ≡ false → u ≡ v) → of_parts header segment len bad u ≡ cond none (Err 11) (Ok v)
 parts_load header segment len bad none u v h s few b same =
     ap (λ o. of_parts o segment len bad u) h
     ∙ ap (λ o. of_parts None o len bad u) s
@@ -74,7 +75,7 @@ module _ (file : List ℕ) (words : List (List ℕ)) (h : Header) (g : ℕ → O
   abbrev pages : PageMap
   pages = pages_below g (2 ^ 20)
 
-  loads : header_fault file ≡ None → headers_of file ≡ h ∷ [] → segment_fault file (h ∷ []) ≡ None → entry_of file ≡ 0x10000 → ((q : ℕ) → start_page file (h ∷ []) (stack_byte words) q ≡ g q) → maps.len pages ≤ 1024 → is_bad_entry 0x10000 pages ≡ none → (none ≡ false → base_of (h ∷ []) ≡ base) → image_of file words ≡ cond none (Err 11) (Ok (fresh 0x10000 words pages base))
+  loads : header_fault file ≡ None → headers_of file ≡ h ∷ [] → segment_fault file (h ∷ []) ≡ None → entry_of file ≡ 0x10000 → ((q : ℕ) → start_page file (h ∷ []) (stack_byte words) q ≡ g q) → maps.len pages ≤ PAGES → is_bad_entry 0x10000 pages ≡ none → (none ≡ false → base_of (h ∷ []) ≡ base) → image_of file words ≡ cond none (Err 11) (Ok (fresh 0x10000 words pages base))
   loads no_header headers no_segment entry each few bad based =
       let mapped : start_pages file words ≡ pages =
       ap (λ hs. pages_below (start_page file hs (stack_byte words)) (2 ^ 20)) headers ∙ below_same (start_page file (h ∷ []) (stack_byte words)) g (2 ^ 20) each in

@@ -24,6 +24,3 @@ pub use table::{
     FRAME_SIZE, NAME_LOOK, RIGHT_READ, RIGHT_RUN, RIGHT_WRITE, is_local, is_signal, need_of,
 };
 pub use text::{Text, Words};
-
-#[cfg(test)]
-mod tests;

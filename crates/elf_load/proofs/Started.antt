@@ -4,6 +4,7 @@ use Rattle.std.specs.Cmp.{nat_cmp_total}
 use Rattle.std.proofs.lemmas.Bool.Decides.{eqb_tells, nat_tests}
 use Rattle.std.specs.FinMap as map
 use Rattle.std.proofs.lemmas.List.{append-nil, drop_all, length-replicate}
+use Rattle.call_table.specs.declared.limit.TheConstants.{PAGES}
 use Rattle.page_set.specs.Pages.{Page, PageMap, zero_page, changed_page, page_with_part, with_part}
 use Rattle.elf_load.specs.Image.{pages_below, is_start_page, start_page, placed_byte, page_rights, stack_rights, tabulated}
 use Rattle.elf_load.specs.declared.image.Header.{Header}
@@ -67,7 +68,7 @@ fine_inserted f m page p lt is fine q =
     ]
 
 -- it is mapped now
-pub added_now : (f : ℕ → Option Page) (old new : PageMap) (page : ℕ) (p : Page) → IsPart f old → page < 2 ^ 20 → map.get old page ≡ None → map.len old < 1024 → f page ≡ Some p → new ≡ map.insert old page p → Added f (is_page page) old new
+pub added_now : (f : ℕ → Option Page) (old new : PageMap) (page : ℕ) (p : Page) → IsPart f old → page < 2 ^ 20 → map.get old page ≡ None → map.len old < PAGES → f page ≡ Some p → new ≡ map.insert old page p → Added f (is_page page) old new
 added_now f old new page p part lt none few is e = subst (Added f (is_page page) old) (sym e) (record {
   part = record {
     each = fine_inserted f old page p lt is part.each;
@@ -81,7 +82,7 @@ added_now f old new page p part lt none few is e = subst (Added f (is_page page)
 })
 
 -- there is no room for it
-pub full_now : (f : ℕ → Option Page) (m : PageMap) (page : ℕ) (p : Page) → IsPart f m → page < 2 ^ 20 → map.get m page ≡ None → 1024 ≤ map.len m → f page ≡ Some p → 1024 < map.len (pages_below f (2 ^ 20))
+pub full_now : (f : ℕ → Option Page) (m : PageMap) (page : ℕ) (p : Page) → IsPart f m → page < 2 ^ 20 → map.get m page ≡ None → PAGES ≤ map.len m → f page ≡ Some p → PAGES < map.len (pages_below f (2 ^ 20))
 full_now f m page p part lt none full is =
     let more = len_inserted m page p none in
     let within = part_len f (2 ^ 20) (map.insert m page p) (record { each = fine_inserted f m page p lt is part.each }) in

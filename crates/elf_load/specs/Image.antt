@@ -5,6 +5,7 @@ use Rattle.std.specs.List.{starts_with, list_any}
 use Rattle.std.specs.Option.{option_or}
 use Rattle.std.specs.Int.{w32, to_le_bytes}
 use Rattle.std.specs.FinMap as map
+use Rattle.call_table.specs.declared.limit.TheConstants.{PAGES}
 use Rattle.page_set.specs.Pages.{PageMap, Page, little}
 use Rattle.user_spec.specs.User.{UserState}
 use Rattle.user_spec.specs.Request.{page_above}
@@ -207,7 +208,7 @@ is_bad_entry entry pages = not (entry % 4 == 0) || not (grants_execute (map.get 
 -- the first of the faults that the pages show
 abbrev pub page_fault : List ℕ → PageMap → Option ℕ
 page_fault file pages =
-    if nat_lt 1024 (map.len pages) then Some 10 else
+    if nat_lt PAGES (map.len pages) then Some 10 else
     (if is_bad_entry (entry_of file) pages then Some 11 else None)
 
 -- the first of the eleven that applies

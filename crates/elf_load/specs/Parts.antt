@@ -1,6 +1,7 @@
 -- The parts that the loader works with.
 use Rattle.std.specs.Prelude.{ℕ, ◌+◌, ◌-◌, ◌*◌, ◌<◌, ◌≤◌, ◌≡◌, ◌⊎◌, ◌%◌, ◌^◌, List, ◌++◌, length, drop, Bool, true, nat_le, nat_lt, ◌==◌, ◌&&◌, if◌then◌else◌, slice_index, replicate, Option, None}
 use Rattle.std.specs.FinMap as map
+use Rattle.call_table.specs.declared.limit.TheConstants.{PAGES}
 use Rattle.page_set.specs.Pages.{PageMap, Page}
 use Rattle.elf_load.specs.Image.{is_load, end_of, placed_byte, words_start, address_table, words_bytes, pages_below}
 use Rattle.elf_load.specs.declared.image.Header.{Header}
@@ -39,7 +40,7 @@ is_page page q = q == page
 -- pages that are those of a function, where they are mapped, and no more than a process may have
 pub record IsPart (f : ℕ → Option Page) (pages : PageMap) : Type 0 where
   pub each : (q : ℕ) → (map.get pages q ≡ None) ⊎ ((q < 2 ^ 20) × (map.get pages q ≡ f q))
-  pub few : map.len pages ≤ 1024
+  pub few : map.len pages ≤ PAGES
 
 -- the pages of a test were mapped, and those that stood there stay
 pub record Added (f : ℕ → Option Page) (test : ℕ → Bool) (old new : PageMap) : Type 0 where
@@ -49,10 +50,10 @@ pub record Added (f : ℕ → Option Page) (test : ℕ → Bool) (old new : Page
 
 -- too many pages, or want of memory
 abbrev pub IsFull : (ℕ → Option Page) → LoadError → Type 0
-IsFull f (Image fault) = (fault ≡ TooManyPages) × (1024 < map.len (pages_below f (2 ^ 20)))
+IsFull f (Image fault) = (fault ≡ TooManyPages) × (PAGES < map.len (pages_below f (2 ^ 20)))
 IsFull f NoMemory = Unit {0}
 
 -- all pages of a function, and no more than a process may have
 pub record IsWhole (f : ℕ → Option Page) (pages : PageMap) : Type 0 where
   pub whole : pages ≡ pages_below f (2 ^ 20)
-  pub few : map.len pages ≤ 1024
+  pub few : map.len pages ≤ PAGES

@@ -66,10 +66,7 @@ fn load_segments(
         Some(fault) => return Err(LoadError::Image(fault)),
         None => {}
     }
-    let pages = match image_pages(alloc, file, headers, words) {
-        Ok(pages) => pages,
-        Err(e) => return Err(e),
-    };
+    let pages = image_pages(alloc, file, headers, words)?;
     if is_bad_entry(file, &pages) {
         return Err(LoadError::Image(ImageFault::Entry));
     }

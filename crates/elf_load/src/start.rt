@@ -9,11 +9,9 @@ use crate::content::{PAGE_SIZE, page_bytes, page_rights};
 use crate::fault::{ImageFault, LoadError};
 use crate::header::{end_of, is_segment};
 use crate::image::Header;
+use call_table::limit::PAGES;
 use page_set::Pages;
 use std::alloc::Global;
-
-/// The most pages of a process.
-const PAGE_LIMIT: u32 = 1024;
 
 /// The first page of the stack, and the page after its last.
 const STACK_PAGES: (u32, u32) = (0x7fff0, 0x80000);
@@ -57,15 +55,13 @@ fn add_page(
     if pages.is_mapped(page) {
         return Ok(());
     }
-    if pages.count() >= PAGE_LIMIT {
+    if pages.count() >= PAGES {
         return Err(LoadError::Image(ImageFault::TooManyPages));
     }
     let rights = page_rights(headers, page);
     let bytes = page_bytes(page, file, headers, table, stack);
-    match put_page(pages, page, rights, &bytes) {
-        Ok(()) => Ok(()),
-        Err(e) => Err(e),
-    }
+    put_page(pages, page, rights, &bytes)?;
+    Ok(())
 }
 
 /// Maps the pages from `first` up to `end` that are not mapped yet.
@@ -86,10 +82,7 @@ fn add_pages(
     ensures { MatchResult result (λ _. Added (start_page file.now headers.now (byte_from table stack.now)) (from_to first end) pages.old pages.new) (λ e. IsFull (start_page file.now headers.now (byte_from table stack.now)) e) }
 {
     for page in first..end {
-        match add_page(pages, page, file, headers, table, stack) {
-            Ok(()) => {}
-            Err(e) => return Err(e),
-        }
+        add_page(pages, page, file, headers, table, stack)?;
     }
     Ok(())
 }
@@ -114,10 +107,8 @@ fn add_segment(
     }
     let first = h.addr / 4096;
     let end = end_of(h).div_ceil(4096) as u32;
-    match add_pages(pages, first, end, file, headers, table, stack) {
-        Ok(()) => Ok(()),
-        Err(e) => Err(e),
-    }
+    add_pages(pages, first, end, file, headers, table, stack)?;
+    Ok(())
 }
 
 /// Maps the pages that the segments touch and that are not mapped yet.
@@ -134,10 +125,7 @@ fn add_segments(
     ensures { MatchResult result (λ _. Added (start_page file.now headers.now (byte_from table stack.now)) (touched headers.now) pages.old pages.new) (λ e. IsFull (start_page file.now headers.now (byte_from table stack.now)) e) }
 {
     for h in headers {
-        match add_segment(pages, h, file, headers, table, stack) {
-            Ok(()) => {}
-            Err(e) => return Err(e),
-        }
+        add_segment(pages, h, file, headers, table, stack)?;
     }
     Ok(())
 }
@@ -156,12 +144,7 @@ pub fn start_pages(
 {
     let mut pages = Pages::new(alloc);
     let (first, end) = STACK_PAGES;
-    match add_pages(&mut pages, first, end, file, headers, table, stack) {
-        Ok(()) => {}
-        Err(e) => return Err(e),
-    }
-    match add_segments(&mut pages, file, headers, table, stack) {
-        Ok(()) => Ok(pages),
-        Err(e) => Err(e),
-    }
+    add_pages(&mut pages, first, end, file, headers, table, stack)?;
+    add_segments(&mut pages, file, headers, table, stack)?;
+    Ok(pages)
 }

@@ -1,6 +1,7 @@
 -- Descriptors of processes and the descriptions that they share.
 use Rattle.std.specs.Prelude.{ℕ, ◌≡◌, ◌≤◌, Bool, true, false, if◌then◌else◌, nat_eq, nat_lt, List, [], ◌∷◌, length, drop, Option, Some, None, is_some, is_none, IsSome, count_by, slice_set}
 use Rattle.std.specs.List.{sum_by}
+use Rattle.call_table.specs.declared.limit.TheConstants.{DESCRIPTORS, DESCRIPTIONS}
 use Rattle.id_table.specs.Places.{at_id, lowest_free, filled, without, changed, put_under}
 use Rattle.fd_table.specs.declared.description.Look.{Look}
 use Rattle.fd_table.specs.declared.description.Target.{Target}
@@ -159,8 +160,8 @@ last_target table pid fd = unless_held (look_at table pid fd) (description_of ta
 -- each process has 16 descriptors, each of them a description that is there; each counted description has a descriptor;
 -- the terminal's descriptions are there; at most 256 are counted
 pub record IsFdTable (table : FdTable) : Type 0 where
-  pub whole : (pid : ℕ) (slots : Slots) → at_id table.processes pid ≡ Some slots → length slots ≡ 16
+  pub whole : (pid : ℕ) (slots : Slots) → at_id table.processes pid ≡ Some slots → length slots ≡ DESCRIPTORS
   pub there : (pid fd id : ℕ) → description_of table pid fd ≡ Some id → IsSome (at_id table.descriptions id)
   pub used : (id : ℕ) → 2 ≤ id → IsSome (at_id table.descriptions id) → 1 ≤ holder_count id table.processes
   pub terminals : (2 ≤ length table.descriptions) × IsSome (at_id table.descriptions 0) × IsSome (at_id table.descriptions 1)
-  pub few : counted table.descriptions ≤ 256
+  pub few : counted table.descriptions ≤ DESCRIPTIONS

@@ -6,6 +6,7 @@ ghost use Rattle.fd_table.specs.Held.{holders_of, more_held, less_held, moved_to
 
 use crate::description::{Description, Look, Target};
 use call_table::NoMemory;
+use call_table::limit::DESCRIPTIONS;
 use id_table::IdTable;
 use std::alloc::Global;
 use std::marker::Model;
@@ -117,7 +118,7 @@ impl Descriptions {
 
     /// Adds a description that one descriptor has, under the lowest free number, and answers that number.
     pub fn add(&mut self, look: Look) -> Result<u32, NoMemory>
-        requires { count_by is_some (drop 2 self.old) < 256 }
+        requires { count_by is_some (drop 2 self.old) < DESCRIPTIONS }
         ensures id { IfOk result (λ id. id ≡ lowest_free self.old) }
         ensures ok { OnOk result (self.new ≡ filled self.old (once_held look)) }
         ensures err { OnErr result (self.new ≡ self.old) }

@@ -10,6 +10,7 @@ use crate::held::{hold_all, let_one_go};
 use crate::processes;
 use crate::processes::Slots;
 use call_table::NoMemory;
+use call_table::limit::{DESCRIPTIONS, DESCRIPTORS};
 use std::alloc::Global;
 use std::marker::Model;
 
@@ -103,9 +104,9 @@ impl Fds {
     pub fn add(&mut self, pid: u32, target: Target, rights: u8) -> Result<u32, NoMemory>
         requires process { IsSome (at_id self.old.processes pid) }
         requires free { 1 ≤ free_count (slots_at self.old.processes pid) }
-        requires few { counted self.old.descriptions < 256 }
+        requires few { counted self.old.descriptions < DESCRIPTIONS }
         ensures fd { IfOk result (λ fd. fd ≡ lowest_fd self.old pid) }
-        ensures low { IfOk result (λ fd. fd < 16) }
+        ensures low { IfOk result (λ fd. fd < DESCRIPTORS) }
         ensures ok { OnOk result (self.new ≡ added self.old pid target rights) }
         ensures err { OnErr result (self.new ≡ self.old) }
     {
@@ -145,12 +146,12 @@ impl Fds {
     pub fn dup(&mut self, pid: u32, fd: u32) -> Option<u32>
         requires { IsSome (description_of self.old pid fd) }
         ensures fd { MatchOption result (free_count (slots_at self.old.processes pid) ≡ 0) (λ new. (1 ≤ free_count (slots_at self.old.processes pid)) × (new ≡ lowest_fd self.old pid)) }
-        ensures low { IfSome result (λ new. new < 16) }
+        ensures low { IfSome result (λ new. new < DESCRIPTORS) }
         ensures new { MatchOption result (self.new ≡ self.old) (λ _. self.new ≡ duplicated self.old pid fd) }
     {
         let id = processes::slot(&self.processes, pid, fd).unwrap();
         let new = processes::lowest_free_of(&self.processes, pid);
-        if new >= 16 {
+        if new >= DESCRIPTORS {
             return None;
         }
         self.descriptions.hold(id);
@@ -180,7 +181,7 @@ impl Fds {
     /// How many descriptions are counted, at most 256.
     pub fn descriptions(&self) -> u32
         ensures count { result ≡ counted self.now.descriptions }
-        ensures few { result ≤ 256 }
+        ensures few { result ≤ DESCRIPTIONS }
     {
         self.descriptions.count() as u32
     }

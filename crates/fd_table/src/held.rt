@@ -6,6 +6,7 @@ ghost use Rattle.fd_table.specs.Held.{holders_of, held_slot, target_left, has_no
 use crate::description::Target;
 use crate::descriptions::Descriptions;
 use crate::processes::Slots;
+use call_table::limit::DESCRIPTORS;
 
 fn hold_slot(descriptions: &mut Descriptions, slot: Option<u32>)
     requires there { IfSome slot (λ id. IsSome (at_id descriptions.old id)) }
@@ -20,8 +21,8 @@ fn hold_slot(descriptions: &mut Descriptions, slot: Option<u32>)
 /// Each descriptor has its description once more.
 pub fn hold_all(descriptions: &mut Descriptions, slots: &Slots)
     requires there { AreThere descriptions.old slots.now }
-    requires few { (id : ℕ) → holders_of (at_id descriptions.old id) + 16 < 2 ^ 64 }
-    requires size { length slots.now ≡ 16 }
+    requires few { (id : ℕ) → holders_of (at_id descriptions.old id) + DESCRIPTORS < 2 ^ 64 }
+    requires size { length slots.now ≡ DESCRIPTORS }
     ensures { IsHeldBy descriptions.old descriptions.new slots.now }
 {
     for slot in slots.iter() {

@@ -4,9 +4,10 @@ ghost use Rattle.id_table.specs.Places.{at_id, lowest_free};
 ghost use Rattle.fd_table.specs.Descriptors.{slots_at, slots_of, with_slot, free_count};
 
 use call_table::NoMemory;
+use call_table::limit::DESCRIPTORS;
 
 /// The 16 descriptors of a process, each the number of its description.
-pub type Slots = [Option<u32>; 16];
+pub type Slots = [Option<u32>; DESCRIPTORS as usize];
 
 /// The description of a descriptor, if the process has it.
 pub fn slot(processes: &[Option<Slots>], pid: u32, fd: u32) -> Option<u32>
@@ -40,7 +41,7 @@ fn lowest_free_slot(slots: &Slots) -> u32
 {
     match first_free(slots) {
         Some(fd) => fd as u32,
-        None => 16,
+        None => DESCRIPTORS,
     }
 }
 
@@ -84,7 +85,7 @@ pub fn count_free_of(processes: &[Option<Slots>], pid: u32) -> u32
 /// Writes one descriptor of a process.
 pub fn set_slot(processes: &mut Vec<Option<Slots>>, pid: u32, fd: u32, slot: Option<u32>)
     requires there { IsSome (at_id processes.old.items pid) }
-    requires within { fd < 16 }
+    requires within { fd < DESCRIPTORS }
     ensures { processes.new.items ≡ with_slot processes.old.items pid fd slot }
 {
     let mut slots = slots(processes, pid);

@@ -4,6 +4,7 @@ use Rattle.std.specs.Str.{bytes_eq}
 use Rattle.std.specs.Ordering.{nat_cmp, is_lt}
 use Rattle.std.specs.Cmp.Lexicographic.{slice_cmp}
 use Rattle.call_table.specs.declared.files.Named.{Named}
+use Rattle.call_table.specs.declared.limit.TheConstants.{FILE_BYTES, NAMED_FILES}
 use Rattle.id_table.specs.Places.{at_id, edited}
 use Rattle.fs_memory.specs.declared.file.File.{File}
 use Rattle.fs_memory.specs.Blocks.{written}
@@ -66,7 +67,7 @@ emptied file = record file { content = [] }
 
 -- the part of some bytes that lies below 1,048,576, where they are written from a place on
 abbrev pub fitting : ℕ → List ℕ → List ℕ
-fitting at bytes = take (1048576 - at) bytes
+fitting at bytes = take (FILE_BYTES - at) bytes
 
 abbrev pub rewritten : ℕ → List ℕ → File → File
 rewritten at bytes file = record file { content = written file.content at (fitting at bytes) }
@@ -100,5 +101,5 @@ named_files (Some file ∷ files) = with_file file.name file.content (named_file
 pub record IsFileTable (files : FileTable) : Type 0 where
   pub names : (id other : ℕ) (name : List ℕ) → is_called name (at_id files id) ≡ true → is_called name (at_id files other) ≡ true → id ≡ other
   pub kept : (id : ℕ) (file : File) → at_id files id ≡ Some file → file.name ≡ None → 1 ≤ file.holders
-  pub small : (id : ℕ) (file : File) → at_id files id ≡ Some file → length file.content ≤ 1048576
-  pub few : named_count files ≤ 128
+  pub small : (id : ℕ) (file : File) → at_id files id ≡ Some file → length file.content ≤ FILE_BYTES
+  pub few : named_count files ≤ NAMED_FILES

@@ -4,6 +4,7 @@ ghost use Rattle.fs_memory.specs.Blocks.{flat, spliced, IsGrown};
 
 use crate::block::{Block, zero_block};
 use call_table::NoMemory;
+use call_table::limit::FILE_BYTES;
 use std::alloc::Global;
 
 fn put(bytes: &mut [u8], at: usize, part: &[u8])
@@ -33,7 +34,7 @@ fn write_part(blocks: &mut Vec<Box<Block>>, place: usize, part: &[u8])
 /// Writes bytes from a place on, block by block.
 pub fn write(blocks: &mut Vec<Box<Block>>, at: usize, bytes: &[u8])
     requires within { at + length bytes.now ≤ 4096 * vec_len blocks.old }
-    requires small { at + length bytes.now ≤ 1048576 }
+    requires small { at + length bytes.now ≤ FILE_BYTES }
     ensures is { flat blocks.new.items ≡ spliced (flat blocks.old.items) at bytes.now }
     ensures len { vec_len blocks.new ≡ vec_len blocks.old }
 {
@@ -70,7 +71,7 @@ pub fn read(
     len: usize,
 ) -> Result<Vec<u8>, NoMemory>
     requires within { at + len ≤ 4096 * length blocks.now }
-    requires small { at + len ≤ 1048576 }
+    requires small { at + len ≤ FILE_BYTES }
     ensures { IfOk result (λ v. v.items ≡ take len (drop at (flat blocks.now))) }
 {
     let mut out = Vec::with_capacity(alloc, len)?;

@@ -4,6 +4,7 @@ ghost use Rattle.fs_memory.specs.Blocks.{written};
 
 use crate::block::Block;
 use crate::blocks;
+use call_table::limit::FILE_BYTES;
 use call_table::{Bytes, NoMemory};
 use std::alloc::Global;
 use std::marker::Model;
@@ -47,7 +48,7 @@ impl Content {
 
     /// The bytes from `at` to the end, or the first `len` of them where there are more.
     pub fn read(&self, at: usize, len: usize) -> Result<Bytes, NoMemory>
-        requires { length self.now ≤ 1048576 }
+        requires { length self.now ≤ FILE_BYTES }
         ensures { IfOk result (λ b. b ≡ take len (drop at self.now)) }
     {
         let alloc = *self.blocks.allocator();
@@ -61,7 +62,7 @@ impl Content {
 
     /// Writes `bytes` from `at` on, with zeros in a gap.
     pub fn write(&mut self, at: usize, bytes: &[u8]) -> Result<(), NoMemory>
-        requires { at + length bytes.now ≤ 1048576 }
+        requires { at + length bytes.now ≤ FILE_BYTES }
         ensures ok { OnOk result (self.new ≡ written self.old at bytes.now) }
         ensures err { OnErr result (self.new ≡ self.old) }
     {

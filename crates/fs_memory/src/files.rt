@@ -5,13 +5,11 @@ ghost use Rattle.fs_memory.specs.Files.{id_called, named_count, content_of, hold
 
 use crate::file::{File, named_file};
 use crate::{search, table};
+use call_table::limit::{FILE_BYTES, NAMED_FILES};
 use call_table::{Bytes, NamedFiles, NoMemory};
 use id_table::IdTable;
 use std::alloc::Global;
 use std::marker::Model;
-
-/// The most files that have a name.
-const MOST_NAMED: usize = 128;
 
 /// Named files and unlinked ones that are still held. Contracts see a table with a place for each number, empty where the number is free.
 #[derive(Drop)]
@@ -53,12 +51,12 @@ impl Files {
     /// Makes an empty file without holders under the lowest free number. None exactly where 128 files have a name.
     pub fn create(&mut self, name: &[u8]) -> Result<Option<u32>, NoMemory>
         requires { id_called name.now self.old ≡ None }
-        ensures id { IfOk result (λ made. MatchOption made (named_count self.old ≡ 128) (λ id. (named_count self.old < 128) × (id ≡ lowest_free self.old))) }
+        ensures id { IfOk result (λ made. MatchOption made (named_count self.old ≡ NAMED_FILES) (λ id. (named_count self.old < NAMED_FILES) × (id ≡ lowest_free self.old))) }
         ensures new { IfOk result (λ made. MatchOption made (self.new ≡ self.old) (λ _. self.new ≡ filled self.old (new_file name.now))) }
         ensures here { IfOk result (λ made. IfSome made (λ id. at_id self.new id ≡ Some (new_file name.now))) }
         ensures err { OnErr result (self.new ≡ self.old) }
     {
-        if search::count_named(&self.files) >= MOST_NAMED {
+        if search::count_named(&self.files) >= NAMED_FILES as usize {
             return Ok(None);
         }
         let file = named_file(self.alloc, name)?;
@@ -103,7 +101,7 @@ impl Files {
     pub fn read_at(&self, id: u32, at: u32, len: u32) -> Result<Bytes, NoMemory>
         requires { IsSome (at_id self.now id) }
         ensures is { IfOk result (λ b. b ≡ take len (drop at (content_of (at_id self.now id)))) }
-        ensures within { IfOk result (λ b. at + length b ≤ max at 1048576) }
+        ensures within { IfOk result (λ b. at + length b ≤ max at FILE_BYTES) }
     {
         let file = self.files.get(id).unwrap();
         file.content.read(at as usize, len as usize)
@@ -113,7 +111,7 @@ impl Files {
     /// Where nothing is written the file stays as it was.
     pub fn write_at(&mut self, id: u32, at: u32, bytes: &[u8]) -> Result<u32, NoMemory>
         requires there { IsSome (at_id self.old id) }
-        requires within { at ≤ 1048576 }
+        requires within { at ≤ FILE_BYTES }
         ensures count { IfOk result (λ count. count ≡ length (fitting at bytes.now)) }
         ensures ok { OnOk result (self.new ≡ changed self.old id (rewritten at bytes.now)) }
         ensures err { OnErr result (self.new ≡ self.old) }
@@ -145,7 +143,7 @@ impl Files {
     pub fn len(&self, id: u32) -> u32
         requires { IsSome (at_id self.now id) }
         ensures value { result ≡ length (content_of (at_id self.now id)) }
-        ensures small { result ≤ 1048576 }
+        ensures small { result ≤ FILE_BYTES }
     {
         let file = self.files.get(id).unwrap();
         file.content.len() as u32

@@ -5,6 +5,7 @@ ghost use Rattle.id_table.specs.Places.{at_id};
 ghost use Rattle.fs_memory.specs.Files.{is_called, id_called, has_name, named_count, comes_before, with_named, with_file};
 
 use crate::file::{File, has_the_name};
+use call_table::limit::FILE_BYTES;
 use call_table::{Named, NoMemory};
 use id_table::IdTable;
 use std::alloc::Global;
@@ -80,7 +81,7 @@ fn insert_named(list: &mut Vec<Named>, named: Named) -> Result<(), NoMemory>
 
 /// Puts a file in the list by name, if it has one.
 pub fn list_file(alloc: Global, list: &mut Vec<Named>, file: &File) -> Result<(), NoMemory>
-    requires { length file.now.content ≤ 1048576 }
+    requires { length file.now.content ≤ FILE_BYTES }
     ensures { OnOk result (list.new.items ≡ with_file file.now.name file.now.content list.old.items) }
 {
     let Some(name) = &file.name else {

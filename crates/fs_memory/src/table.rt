@@ -5,10 +5,8 @@ ghost use Rattle.fs_memory.specs.Files.{holders_of, held, released, unlinked, is
 
 use crate::file::File;
 use call_table::NoMemory;
+use call_table::limit::FILE_BYTES;
 use id_table::IdTable;
-
-/// The most bytes that a file has.
-const MOST_BYTES: u32 = 1_048_576;
 
 /// One more holds the file.
 pub fn hold(files: &mut IdTable<File>, id: u32)
@@ -71,12 +69,12 @@ pub fn truncate(files: &mut IdTable<File>, id: u32)
 /// Writes what fits, and answers how many bytes those are.
 pub fn write(files: &mut IdTable<File>, id: u32, at: u32, bytes: &[u8]) -> Result<u32, NoMemory>
     requires there { IsSome (at_id files.old id) }
-    requires within { at ≤ 1048576 }
+    requires within { at ≤ FILE_BYTES }
     ensures count { IfOk result (λ count. count ≡ length (fitting at bytes.now)) }
     ensures ok { OnOk result (files.new ≡ changed files.old id (rewritten at bytes.now)) }
     ensures err { OnErr result (files.new ≡ files.old) }
 {
-    let count = bytes.len().min((MOST_BYTES - at) as usize);
+    let count = bytes.len().min((FILE_BYTES - at) as usize);
     let file = files.value_mut(id);
     file.content.write(at as usize, &bytes[..count])?;
     Ok(count as u32)

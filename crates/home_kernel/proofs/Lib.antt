@@ -1,4 +1,3 @@
 mod Holding
 mod Growing
 mod Closing
-mod Lifting

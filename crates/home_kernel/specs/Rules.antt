@@ -1,12 +1,13 @@
 -- What holds of every kernel.
-use Rattle.std.specs.Prelude.{◌≡◌, ◌≤◌, ◌+◌, ◌^◌, ℕ, length, Option, Some, IsSome, count_by, is_none, is_some}
+use Rattle.std.specs.Prelude.{◌≡◌, ◌≤◌, ◌+◌, ℕ, length, Option, Some, IsSome, count_by, is_none, is_some}
 use Rattle.id_table.specs.Places.{at_id}
 use Rattle.fs_memory.specs.Files.{FileTable, holders_of}
 use Rattle.fd_table.specs.Descriptors.{FdTable, Processes, end_count, target_of, launched, sought}
 use Rattle.fd_table.specs.declared.description.Target.{Target}
 use Rattle.fd_table.specs.declared.description.Target.TheVariants.{TermIn, TermOut, File}
 use Rattle.kernel_spec.specs.Io.{IoState}
-use Rattle.kernel_spec.specs.Kernel.{KernelState}
+use Rattle.kernel_spec.specs.Kernel.{KernelState, given}
+use Rattle.call_table.specs.declared.limit.TheConstants.{PROCESSES, LAST_LAUNCHED, TERMINAL_BYTES}
 
 abbrev pub launched_io : IoState → ℕ → IoState
 launched_io io pid = record io { fds = launched io.fds pid }
@@ -36,8 +37,8 @@ pub record AreKept (old new : Processes) : Type 0 where
 -- each process that was given has descriptors, and no other; at most 64 processes live, pids go to 32,767,
 -- and the terminal has at most 16,777,216 bytes
 pub record IsKernel (k : KernelState) : Type 0 where
-  pub given : (pid : ℕ) → 1 ≤ pid → pid ≤ length k.ends → IsSome (at_id k.io.fds.processes pid)
-  pub not_given : length k.io.fds.processes ≤ length k.ends + 1
-  pub few_live : count_by is_none k.ends ≤ 64
-  pub few : length k.ends ≤ 32767
-  pub shown : length k.terminal ≤ 2 ^ 24
+  pub descriptors : (pid : ℕ) → 1 ≤ pid → pid ≤ given k → IsSome (at_id k.io.fds.processes pid)
+  pub not_given : length k.io.fds.processes ≤ given k + 1
+  pub few_live : count_by is_none k.ends ≤ PROCESSES
+  pub few : given k ≤ LAST_LAUNCHED
+  pub shown : length k.terminal ≤ TERMINAL_BYTES

@@ -3,6 +3,7 @@ ghost use Rattle.std.specs.Prelude.{◌≡◌, ◌≤◌, length};
 ghost use Rattle.kernel_spec.specs.Kernel.{value_answer};
 ghost use Rattle.kernel_spec.specs.Calls.{bytes_answer};
 
+use call_table::limit::TRANSFER_BYTES;
 use call_table::{Answer, Bytes, Kind};
 use std::alloc::Global;
 
@@ -19,7 +20,7 @@ pub fn value_answer(alloc: Global, value: i32) -> Answer
 
 /// An answer of bytes and their count.
 pub fn bytes_answer(bytes: Bytes) -> Answer
-    requires { length bytes ≤ 4096 }
+    requires { length bytes ≤ TRANSFER_BYTES }
     ensures { result ≡ bytes_answer bytes }
 {
     Answer {

@@ -4,26 +4,19 @@ ghost use Rattle.id_table.specs.Places.{at_id};
 ghost use Rattle.fs_memory.specs.Files.{id_called, fitting, named_files};
 ghost use Rattle.fd_table.specs.Descriptors.{description_of, look_at};
 ghost use Rattle.kernel_spec.specs.Io.{IoState, IoDone, no_files, room_error, truncated_files, after_last, open_found, open_absent, open_called, open_result, close_result, all_closed, seek_result, seek_to, seek_in, dup_result, unlink_result};
-ghost use Rattle.kernel_spec.specs.Calls.{file_part, with_write, io_row};
+ghost use Rattle.kernel_spec.specs.Calls.{file_part, with_write};
 ghost use Rattle.home_kernel.specs.Rules.{launched_io, sought_io, AreKept, HaveHolders, IsHeldOnce};
-ghost use Rattle.home_kernel.specs.Serving.{IoCalls};
 
-use crate::answers::value_answer;
 use crate::flags::{CREATE, EXCLUSIVE, TRUNCATE, flags_error, has_flag};
 use crate::names::name_error;
 use crate::places::place_of;
 use call_table::error::{EBADF, EEXIST, EINVAL, EMFILE, ENFILE, ENOENT, ENOSPC, ESPIPE};
-use call_table::{Answer, Bytes, NamedFiles, NoMemory};
+use call_table::limit::{DESCRIPTIONS, DESCRIPTORS, FILE_BYTES, TRANSFER_BYTES};
+use call_table::{Bytes, NamedFiles, NoMemory};
 use fd_table::{Fds, Look, Target};
 use fs_memory::Files;
 use std::alloc::Global;
 use std::marker::Model;
-
-/// The most descriptions that are counted.
-const MOST_DESCRIPTIONS: u32 = 256;
-
-/// The descriptors of a process are 0 to 15.
-const DESCRIPTORS: u32 = 16;
 
 /// Files and descriptors.
 #[derive(Drop)]
@@ -54,7 +47,7 @@ fn room_error(fds: &Fds, pid: u32) -> Option<i32>
     if fds.free_fds(pid) == 0 {
         return Some(EMFILE);
     }
-    if fds.descriptions() >= MOST_DESCRIPTIONS {
+    if fds.descriptions() >= DESCRIPTIONS {
         return Some(ENFILE);
     }
     None
@@ -104,10 +97,8 @@ impl Io {
         ensures ok { OnOk result (self.new ≡ launched_io self.old pid) }
         ensures err { OnErr result (self.new ≡ self.old) }
     {
-        match self.fds.launch(pid) {
-            Ok(()) => Ok(()),
-            Err(e) => Err(e),
-        }
+        self.fds.launch(pid)?;
+        Ok(())
     }
 
     /// Opens a file that is there.
@@ -175,14 +166,8 @@ impl Io {
             return Ok(error);
         }
         match self.files.find(name) {
-            Some(id) => match self.open_found(pid, id, flags) {
-                Ok(value) => return Ok(value),
-                Err(e) => return Err(e),
-            },
-            None => match self.open_absent(pid, name, flags) {
-                Ok(value) => return Ok(value),
-                Err(e) => return Err(e),
-            },
+            Some(id) => Ok(self.open_found(pid, id, flags)?),
+            None => Ok(self.open_absent(pid, name, flags)?),
         }
     }
 
@@ -283,11 +268,13 @@ impl Io {
         requires file { look.target ≡ Target.File id }
         ensures bytes { IfOk result (λ bytes. bytes ≡ file_part self.old.files id look.offset len) }
         ensures ok { IfOk result (λ bytes. self.new ≡ sought_io self.old pid fd (look.offset + length bytes)) }
-        ensures few { IfOk result (λ bytes. length bytes ≤ 4096) }
+        ensures few { IfOk result (λ bytes. length bytes ≤ TRANSFER_BYTES) }
         ensures err { OnErr result (self.new ≡ self.old) }
         ensures kept { AreKept self.old.fds.processes self.new.fds.processes }
     {
-        let bytes = self.files.read_at(id, look.offset, len.min(4096))?;
+        let bytes = self
+            .files
+            .read_at(id, look.offset, len.min(TRANSFER_BYTES))?;
         let count = bytes.len() as u32;
         self.fds.seek(pid, fd, look.offset + count);
         Ok(bytes)
@@ -304,43 +291,16 @@ impl Io {
     ) -> Result<u32, NoMemory>
         requires here { look_at self.old.fds pid fd ≡ Some look }
         requires file { look.target ≡ Target.File id }
-        requires within { look.offset < 1048576 }
+        requires within { look.offset < FILE_BYTES }
         ensures count { IfOk result (λ count. count ≡ length (fitting look.offset bytes.now)) }
         ensures ok { OnOk result (self.new ≡ with_write self.old pid fd id look.offset bytes.now) }
-        ensures few { IfOk result (λ count. count ≤ 1048576) }
+        ensures few { IfOk result (λ count. count ≤ FILE_BYTES) }
         ensures err { OnErr result (self.new ≡ self.old) }
         ensures kept { AreKept self.old.fds.processes self.new.fds.processes }
     {
         let count = self.files.write_at(id, look.offset, bytes)?;
         self.fds.seek(pid, fd, look.offset + count);
         Ok(count)
-    }
-
-    /// A call on files and descriptors alone, by its number, its arguments and its bytes: its answer, None exactly where it is another call.
-    pub fn call(
-        &mut self,
-        alloc: Global,
-        pid: u32,
-        number: u32,
-        args: &[u32; 6],
-        bytes: &[u8],
-    ) -> Result<Option<Answer>, NoMemory>
-        requires { IsSome (at_id self.old.fds.processes pid) }
-        ensures ok { IfOk result (λ answer. IoCalls answer (io_row number self.old pid args.now bytes.now) self.old self.new) }
-        ensures err { OnErr result (self.new ≡ self.old) }
-        ensures kept { AreKept self.old.fds.processes self.new.fds.processes }
-    {
-        match number {
-            6 => match self.open(pid, args[1], bytes, args[2]) {
-                Ok(value) => return Ok(Some(value_answer(alloc, value))),
-                Err(e) => return Err(e),
-            },
-            7 => Ok(Some(value_answer(alloc, self.close(pid, args[0])))),
-            10 => Ok(Some(value_answer(alloc, self.seek(pid, args[0], args[1], args[2])))),
-            12 => Ok(Some(value_answer(alloc, self.dup(pid, args[0])))),
-            13 => Ok(Some(value_answer(alloc, self.unlink(args[1], bytes)))),
-            _ => Ok(None),
-        }
     }
 
     /// All named files, by the bytes of their names.

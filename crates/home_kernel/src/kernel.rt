@@ -4,30 +4,26 @@ ghost use Rattle.std.specs.List.{list_any};
 ghost use Rattle.std.specs.Option.{option_map};
 ghost use Rattle.fs_memory.specs.Files.{named_files};
 ghost use Rattle.fd_table.specs.Descriptors.{look_at};
-ghost use Rattle.kernel_spec.specs.Kernel.{KernelState, no_process, answers, answers_io, with_end, fed};
-ghost use Rattle.kernel_spec.specs.Calls.{call_result, io_row, is_built, read_input, read_result, write_file, write_terminal, write_result};
-ghost use Rattle.kernel_spec.specs.Processes.{at_pid, end_of};
-ghost use Rattle.home_kernel.specs.Serving.{Calls, Serves, Launches, has_room, is_live, IsLive};
+ghost use Rattle.kernel_spec.specs.Kernel.{KernelState, no_process, given, end_at, is_live, has_room, answers, answers_io, with_end, fed};
+ghost use Rattle.kernel_spec.specs.Calls.{call_result, is_built, read_input, read_result, write_file, write_terminal, write_result};
+ghost use Rattle.kernel_spec.specs.Io.{open_result, close_result, seek_result, dup_result, unlink_result};
+ghost use Rattle.kernel_spec.specs.Processes.{set_pid};
+ghost use Rattle.home_kernel.specs.Serving.{Calls, Serves, Launches, IsLive};
 
 use crate::answers::{bytes_answer, value_answer};
 use crate::io::Io;
-use crate::places::FILE_BYTES;
 use crate::terminal::show;
 use crate::typed::Typed;
+use call_table::call::{CLOSE, DUP, EXIT, LSEEK, OPEN, READ, UNLINK, WRITE, YIELD};
 use call_table::error::{EBADF, EFBIG};
+use call_table::limit::{FILE_BYTES, LAST_LAUNCHED, PROCESSES};
 use call_table::{Answer, Bytes, End, NamedFiles, NoMemory, Request};
 use fd_table::{Look, Target};
 use std::alloc::Global;
 use std::marker::Model;
 
-/// The most processes that live.
-const MOST_LIVE: usize = 64;
-
-/// The last pid.
-const LAST_PID: usize = 32_767;
-
-/// The numbers of the calls that are built: exit, open, close, read, write, lseek, dup, unlink, yield.
-const BUILT: [u32; 9] = [1, 6, 7, 8, 9, 10, 12, 13, 19];
+/// The numbers of the calls that are built.
+const BUILT: [u32; 9] = [EXIT, OPEN, CLOSE, READ, WRITE, LSEEK, DUP, UNLINK, YIELD];
 
 /// What a call comes to.
 #[derive(Debug, Drop)]
@@ -81,7 +77,7 @@ fn live_count(ends: &[Option<End>]) -> usize
 fn set_end(ends: &mut Vec<Option<End>>, pid: u32, end: End)
     requires low { 1 ≤ pid }
     requires high { pid ≤ vec_len ends.old }
-    ensures is { ends.new.items ≡ slice_set ends.old.items (pid - 1) (Some end) }
+    ensures is { ends.new.items ≡ set_pid ends.old.items pid (Some end) }
     ensures len { vec_len ends.new ≡ vec_len ends.old }
 {
     ends[pid as usize - 1] = Some(end);
@@ -104,7 +100,7 @@ impl Kernel {
     pub fn can_launch(&self) -> bool
         ensures { result ≡ has_room self.now }
     {
-        live_count(&self.ends) < MOST_LIVE && self.ends.len() < LAST_PID
+        live_count(&self.ends) < PROCESSES as usize && self.ends.len() < LAST_LAUNCHED as usize
     }
 
     /// One more process with the terminal's descriptors: its pid, None exactly where there is no room. Want of memory changes nothing.
@@ -126,7 +122,7 @@ impl Kernel {
     fn end(&mut self, pid: u32, end: End)
         requires { IsLive self.old pid }
         ensures is { self.new ≡ with_end self.old pid end }
-        ensures len { length self.new.ends ≡ length self.old.ends }
+        ensures given { given self.new ≡ given self.old }
     {
         self.io.close_all(pid);
         set_end(&mut self.ends, pid, end);
@@ -136,7 +132,7 @@ impl Kernel {
     fn read_input(&mut self, alloc: Global, len: u32) -> Result<Option<Answer>, NoMemory>
         ensures ok { IfOk result (λ answer. Calls answer (read_input self.old len) self.old self.new) }
         ensures err { OnErr result (self.new ≡ self.old) }
-        ensures len { length self.new.ends ≡ length self.old.ends }
+        ensures given { given self.new ≡ given self.old }
     {
         if self.typed.len() == 0 {
             if self.typed.has_ended() {
@@ -158,7 +154,7 @@ impl Kernel {
     ) -> Result<Option<Answer>, NoMemory>
         ensures ok { IfOk result (λ answer. Calls answer (read_result self.old pid fd len) self.old self.new) }
         ensures err { OnErr result (self.new ≡ self.old) }
-        ensures len { length self.new.ends ≡ length self.old.ends }
+        ensures given { given self.new ≡ given self.old }
     {
         let Some(look) = self.io.look(pid, fd) else {
             return Ok(Some(value_answer(alloc, EBADF)));
@@ -174,10 +170,7 @@ impl Kernel {
                 let bytes = self.io.read(pid, fd, look, id, len)?;
                 Ok(Some(bytes_answer(bytes)))
             }
-            Target::TermIn => match self.read_input(alloc, len) {
-                Ok(answer) => return Ok(answer),
-                Err(e) => return Err(e),
-            },
+            Target::TermIn => Ok(self.read_input(alloc, len)?),
             Target::TermOut => Ok(Some(value_answer(alloc, EBADF))),
             Target::ReadEnd(_) => Ok(None),
             Target::WriteEnd(_) => Ok(None),
@@ -197,7 +190,7 @@ impl Kernel {
         requires file { look.target ≡ Target.File id }
         ensures ok { IfOk result (λ value. write_file self.old pid fd id look.offset bytes.now ≡ answers self.new value) }
         ensures err { OnErr result (self.new ≡ self.old) }
-        ensures len { length self.new.ends ≡ length self.old.ends }
+        ensures given { given self.new ≡ given self.old }
     {
         if look.offset >= FILE_BYTES {
             return Ok(EFBIG);
@@ -210,12 +203,10 @@ impl Kernel {
     fn write_terminal(&mut self, bytes: &[u8]) -> Result<i32, NoMemory>
         ensures ok { IfOk result (λ value. write_terminal self.old bytes.now ≡ answers self.new value) }
         ensures err { OnErr result (self.new ≡ self.old) }
-        ensures len { length self.new.ends ≡ length self.old.ends }
+        ensures given { given self.new ≡ given self.old }
     {
-        match show(&mut self.terminal, bytes) {
-            Ok(value) => Ok(value),
-            Err(e) => Err(e),
-        }
+        let value = show(&mut self.terminal, bytes)?;
+        Ok(value)
     }
 
     /// A write to a descriptor.
@@ -228,7 +219,7 @@ impl Kernel {
     ) -> Result<Option<Answer>, NoMemory>
         ensures ok { IfOk result (λ answer. Calls answer (write_result self.old pid fd bytes.now) self.old self.new) }
         ensures err { OnErr result (self.new ≡ self.old) }
-        ensures len { length self.new.ends ≡ length self.old.ends }
+        ensures given { given self.new ≡ given self.old }
     {
         let Some(look) = self.io.look(pid, fd) else {
             return Ok(Some(value_answer(alloc, EBADF)));
@@ -254,23 +245,54 @@ impl Kernel {
         }
     }
 
-    /// A call on files and descriptors alone: its answer, None where it is another call.
-    fn io_call(
+    /// Opens a file, and makes it where the flags ask for that.
+    fn open(
         &mut self,
         alloc: Global,
         pid: u32,
-        request: &Request,
+        len: u32,
+        name: &[u8],
+        flags: u32,
     ) -> Result<Option<Answer>, NoMemory>
         requires { IsLive self.old pid }
-        ensures ok { IfOk result (λ answer. Calls answer (option_map (answers_io self.old) (io_row request.now.number self.old.io pid request.now.args request.now.bytes)) self.old self.new) }
+        ensures ok { IfOk result (λ answer. Calls answer (Some (answers_io self.old (open_result self.old.io pid len name.now flags))) self.old self.new) }
         ensures err { OnErr result (self.new ≡ self.old) }
-        ensures len { length self.new.ends ≡ length self.old.ends }
+        ensures given { given self.new ≡ given self.old }
     {
-        let bytes = request.bytes.as_slice();
-        let answer = self
-            .io
-            .call(alloc, pid, request.number, &request.args, bytes)?;
-        Ok(answer)
+        let value = self.io.open(pid, len, name, flags)?;
+        Ok(Some(value_answer(alloc, value)))
+    }
+
+    /// Closes a descriptor.
+    fn close(&mut self, pid: u32, fd: u32) -> i32
+        ensures is { answers_io self.old (close_result self.old.io pid fd) ≡ answers self.new result }
+        ensures given { given self.new ≡ given self.old }
+    {
+        self.io.close(pid, fd)
+    }
+
+    /// Moves the offset of a descriptor's description.
+    fn seek(&mut self, pid: u32, fd: u32, off: u32, whence: u32) -> i32
+        ensures is { answers_io self.old (seek_result self.old.io pid fd off whence) ≡ answers self.new result }
+        ensures given { given self.new ≡ given self.old }
+    {
+        self.io.seek(pid, fd, off, whence)
+    }
+
+    /// Shares a descriptor's description.
+    fn dup(&mut self, pid: u32, fd: u32) -> i32
+        ensures is { answers_io self.old (dup_result self.old.io pid fd) ≡ answers self.new result }
+        ensures given { given self.new ≡ given self.old }
+    {
+        self.io.dup(pid, fd)
+    }
+
+    /// Takes the name from a file.
+    fn unlink(&mut self, len: u32, name: &Bytes) -> i32
+        ensures is { answers_io self.old (unlink_result self.old.io len name.now) ≡ answers self.new result }
+        ensures given { given self.new ≡ given self.old }
+    {
+        self.io.unlink(len, name.as_slice())
     }
 
     /// A call by its number: its answer, None where it blocks or is not built.
@@ -284,26 +306,23 @@ impl Kernel {
         requires { IsLive self.old pid }
         ensures ok { IfOk result (λ answer. Calls answer (call_result self.old pid request.now) self.old self.new) }
         ensures err { OnErr result (self.new ≡ self.old) }
-        ensures len { length self.new.ends ≡ length self.old.ends }
+        ensures given { given self.new ≡ given self.old }
     {
+        let (a, b, c) = (request.args[0], request.args[1], request.args[2]);
         match request.number {
-            1 => {
-                self.end(pid, End::Exit((request.args[0] % 256) as u8));
+            EXIT => {
+                self.end(pid, End::Exit((a % 256) as u8));
                 Ok(Some(value_answer(alloc, 0)))
             }
-            8 => match self.read(alloc, pid, request.args[0], request.args[2]) {
-                Ok(answer) => return Ok(answer),
-                Err(e) => return Err(e),
-            },
-            9 => match self.write(alloc, pid, request.args[0], request.bytes.as_slice()) {
-                Ok(answer) => return Ok(answer),
-                Err(e) => return Err(e),
-            },
-            19 => Ok(Some(value_answer(alloc, 0))),
-            _ => match self.io_call(alloc, pid, request) {
-                Ok(answer) => return Ok(answer),
-                Err(e) => return Err(e),
-            },
+            OPEN => Ok(self.open(alloc, pid, b, request.bytes.as_slice(), c)?),
+            CLOSE => Ok(Some(value_answer(alloc, self.close(pid, a)))),
+            READ => Ok(self.read(alloc, pid, a, c)?),
+            WRITE => Ok(self.write(alloc, pid, a, request.bytes.as_slice())?),
+            LSEEK => Ok(Some(value_answer(alloc, self.seek(pid, a, b, c)))),
+            DUP => Ok(Some(value_answer(alloc, self.dup(pid, a)))),
+            UNLINK => Ok(Some(value_answer(alloc, self.unlink(b, &request.bytes)))),
+            YIELD => Ok(Some(value_answer(alloc, 0))),
+            _ => Ok(None),
         }
     }
 
@@ -312,7 +331,7 @@ impl Kernel {
         requires { IsLive self.old pid }
         ensures ok { IfOk result (λ served. Serves served request.now.number (call_result self.old pid request.now) self.old self.new) }
         ensures err { OnErr result (self.new ≡ self.old) }
-        ensures len { length self.new.ends ≡ length self.old.ends }
+        ensures given { given self.new ≡ given self.old }
     {
         match self.call(alloc, pid, request)? {
             Some(answer) => Ok(Served::Done {
@@ -333,7 +352,7 @@ impl Kernel {
         requires { IsLive self.old pid }
         ensures raised { result ≡ None }
         ensures is { self.new ≡ with_end self.old pid (End.Signal signal) }
-        ensures len { length self.new.ends ≡ length self.old.ends }
+        ensures given { given self.new ≡ given self.old }
     {
         self.end(pid, End::Signal(signal));
         None
@@ -341,7 +360,7 @@ impl Kernel {
 
     /// How a process ended: None where it is live or was never given.
     pub fn ended(&self, pid: u32) -> Option<End>
-        ensures { result ≡ end_of (at_pid self.now.ends pid) }
+        ensures { result ≡ end_at self.now pid }
     {
         if pid == 0 {
             return None;
@@ -355,7 +374,7 @@ impl Kernel {
     /// Whether a process was given and has not ended.
     pub fn live(&self, pid: u32) -> bool
         ensures is { result ≡ is_live self.now pid }
-        ensures bounds { IsTrue result → (1 ≤ pid) × (pid ≤ length self.now.ends) }
+        ensures bounds { IsTrue result → (1 ≤ pid) × (pid ≤ given self.now) }
         ensures live { IsTrue result → IsLive self.now pid }
     {
         if pid == 0 {
@@ -370,7 +389,7 @@ impl Kernel {
 
     /// How many pids were given.
     pub fn given(&self) -> usize
-        ensures { result ≡ length self.now.ends }
+        ensures { result ≡ given self.now }
     {
         self.ends.len()
     }
@@ -388,10 +407,8 @@ impl Kernel {
         ensures ok { OnOk result (self.new ≡ record self.old { input = fed bytes.now self.old.input }) }
         ensures err { OnErr result (self.new ≡ self.old) }
     {
-        match self.typed.feed(bytes) {
-            Ok(()) => Ok(()),
-            Err(e) => Err(e),
-        }
+        self.typed.feed(bytes)?;
+        Ok(())
     }
 
     /// Nothing more is typed.

@@ -4,9 +4,7 @@ ghost use Rattle.std.specs.List.{list_all};
 ghost use Rattle.kernel_spec.specs.Io.{is_name_byte, name_error};
 
 use call_table::error::{EINVAL, ENAMETOOLONG, ENOENT};
-
-/// The most bytes of a name.
-const NAME_BYTES: u32 = 64;
+use call_table::limit::NAME_BYTES;
 
 fn is_name_byte(byte: u8) -> bool
     ensures { result ≡ is_name_byte byte }

@@ -2,8 +2,7 @@
 ghost use Rattle.std.specs.Prelude.{◌≡◌, ◌≤◌, IfSome};
 ghost use Rattle.kernel_spec.specs.Io.{place_from, in_file, base_of, place_of};
 
-/// The most bytes of a file.
-pub const FILE_BYTES: u32 = 1_048_576;
+use call_table::limit::FILE_BYTES;
 
 /// A place with a signed distance added: from 2^31 on the distance is minus what is missing to 2^32.
 fn place_from(base: u32, off: u32) -> Option<u64>
@@ -19,7 +18,7 @@ fn place_from(base: u32, off: u32) -> Option<u64>
 
 fn in_file(place: u64) -> Option<u32>
     ensures is { result ≡ in_file place }
-    ensures low { IfSome result (λ place. place ≤ 1048576) }
+    ensures low { IfSome result (λ place. place ≤ FILE_BYTES) }
 {
     if place <= u64::from(FILE_BYTES) {
         return Some(place as u32);
@@ -42,7 +41,7 @@ fn base_of(whence: u32, offset: u32, len: u32) -> Option<u32>
 /// The place that a seek leads to. None exactly where there is none from 0 to 1,048,576.
 pub fn place_of(whence: u32, offset: u32, len: u32, off: u32) -> Option<u32>
     ensures is { result ≡ place_of whence offset len off }
-    ensures low { IfSome result (λ place. place ≤ 1048576) }
+    ensures low { IfSome result (λ place. place ≤ FILE_BYTES) }
 {
     let base = base_of(whence, offset, len)?;
     let place = place_from(base, off)?;

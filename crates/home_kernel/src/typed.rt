@@ -3,12 +3,10 @@ ghost use Rattle.std.specs.Prelude.{◌≡◌, ◌≤◌, true, IfOk, OnOk, OnEr
 ghost use Rattle.kernel_spec.specs.Kernel.{Input, no_input, fed};
 ghost use Rattle.kernel_spec.specs.Calls.{typed, untyped};
 
+use call_table::limit::TRANSFER_BYTES;
 use call_table::{Bytes, NoMemory};
 use std::alloc::Global;
 use std::marker::Model;
-
-/// The most bytes that a call gives.
-const TRANSFER_BYTES: u32 = 4096;
 
 /// The bytes that were typed and not read yet, and whether no more comes.
 #[derive(Drop)]
@@ -81,7 +79,7 @@ impl Typed {
         ensures bytes { IfOk result (λ bytes. bytes ≡ typed self.old len) }
         ensures ok { OnOk result (self.new ≡ untyped self.old len) }
         ensures err { OnErr result (self.new ≡ self.old) }
-        ensures few { IfOk result (λ bytes. length bytes ≤ 4096) }
+        ensures few { IfOk result (λ bytes. length bytes ≤ TRANSFER_BYTES) }
     {
         let count = self.len().min(len.min(TRANSFER_BYTES) as usize);
         let bytes = &self.bytes.as_slice()[self.read..self.read + count];

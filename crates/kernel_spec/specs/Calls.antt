@@ -1,7 +1,6 @@
 -- A call of a process, where it is built.
 use Rattle.std.specs.Prelude.{ℕ, ◌+◌, ◌-◌, ◌/◌, ◌%◌, ◌^◌, List, [], ◌∷◌, ◌++◌, Option, Some, None, ◌==◌, ◌||◌, if◌then◌else◌, slice_index, min, take, drop, length, pos, Bool, nat_le}
 use Rattle.std.specs.List.{list_any}
-use Rattle.std.specs.Option.{option_map}
 use Rattle.call_table.specs.declared.request.Request.{Request}
 use Rattle.call_table.specs.declared.request.Answer.{Answer}
 use Rattle.call_table.specs.declared.request.Kind.TheVariants.{Plain}
@@ -11,6 +10,8 @@ use Rattle.fd_table.specs.Descriptors.{look_at, sought}
 use Rattle.fd_table.specs.declared.description.Look.{Look}
 use Rattle.fd_table.specs.declared.description.Target.{Target}
 use Rattle.fd_table.specs.declared.description.Target.TheVariants.{TermIn, TermOut, File, ReadEnd, WriteEnd}
+use Rattle.call_table.specs.declared.limit.TheConstants.{FILE_BYTES, TRANSFER_BYTES, TERMINAL_BYTES}
+use Rattle.call_table.specs.declared.call.TheConstants.{EXIT, OPEN, CLOSE, READ, WRITE, LSEEK, DUP, UNLINK, YIELD}
 use Rattle.call_table.specs.declared.error.TheConstants.{EBADF, EFBIG, ENOSPC}
 use Rattle.kernel_spec.specs.Io.{IoState, IoDone, open_result, close_result, seek_result, dup_result, unlink_result}
 use Rattle.kernel_spec.specs.Kernel.{KernelState, Input, Called, answers, answers_io, exited}
@@ -23,7 +24,7 @@ bytes_answer bytes = record { value = pos (length bytes); bytes = bytes; kind = 
 
 -- at most 4,096 bytes of a file from an offset on
 abbrev pub file_part : FileTable → ℕ → ℕ → ℕ → List ℕ
-file_part files id offset len = take (min len 4096) (drop offset (content_of (at_id files id)))
+file_part files id offset len = take (min len TRANSFER_BYTES) (drop offset (content_of (at_id files id)))
 
 -- a descriptor's description has an offset moved
 abbrev pub with_offset_at : KernelState → ℕ → ℕ → ℕ → KernelState
@@ -35,7 +36,7 @@ read_file k pid fd offset bytes = record { kernel = with_offset_at k pid fd (off
 
 -- so many bytes of what was typed
 abbrev pub typed : Input → ℕ → List ℕ
-typed input len = take (min len 4096) input.bytes
+typed input len = take (min len TRANSFER_BYTES) input.bytes
 
 abbrev pub untyped : Input → ℕ → Input
 untyped input len = record input { bytes = drop (length (typed input len)) input.bytes }
@@ -72,7 +73,7 @@ read_result k pid fd len = read_at (look_at k.io.fds pid fd) k pid fd len
 
 -- the terminal holds at most 16,777,216 bytes
 abbrev pub room_of : List ℕ → ℕ
-room_of terminal = 2 ^ 24 - length terminal
+room_of terminal = TERMINAL_BYTES - length terminal
 
 abbrev pub shown : List ℕ → List ℕ → List ℕ
 shown terminal bytes = take (room_of terminal) bytes
@@ -93,7 +94,7 @@ with_write io pid fd id offset bytes = record {
 -- as many bytes as fit below 1,048,576; EFBIG where the offset is there
 abbrev pub write_file : KernelState → ℕ → ℕ → ℕ → ℕ → List ℕ → Called
 write_file k pid fd id offset bytes =
-    if nat_le 1048576 offset then answers k EFBIG
+    if nat_le FILE_BYTES offset then answers k EFBIG
     else answers (record k { io = with_write k.io pid fd id offset bytes }) (pos (length (fitting offset bytes)))
 
 -- pipes are not built
@@ -119,30 +120,25 @@ write_result k pid fd bytes = write_at (look_at k.io.fds pid fd) k pid fd bytes
 
 -- ---- a call by its number
 
--- exit, open, close, read, write, lseek, dup, unlink, yield
+-- the calls that are built
 abbrev pub built_calls : List ℕ
-built_calls = 1 ∷ 6 ∷ 7 ∷ 8 ∷ 9 ∷ 10 ∷ 12 ∷ 13 ∷ 19 ∷ []
+built_calls = EXIT ∷ OPEN ∷ CLOSE ∷ READ ∷ WRITE ∷ LSEEK ∷ DUP ∷ UNLINK ∷ YIELD ∷ []
 
 abbrev pub is_built : ℕ → Bool
 is_built number = list_any (λ n. n == number) built_calls
 
--- a call on files and descriptors alone
-abbrev pub io_row : ℕ → IoState → ℕ → List ℕ → List ℕ → Option IoDone
-io_row number io pid args bytes =
-    if number == 6 then Some (open_result io pid (slice_index args 1) bytes (slice_index args 2)) else
-    (if number == 7 then Some (close_result io pid (slice_index args 0)) else
-    (if number == 10 then Some (seek_result io pid (slice_index args 0) (slice_index args 1) (slice_index args 2)) else
-    (if number == 12 then Some (dup_result io pid (slice_index args 0)) else
-    (if number == 13 then Some (unlink_result io (slice_index args 1) bytes) else None))))
-
 -- what a call leaves, none where it blocks or is not built
 unfoldable pub call_row : ℕ → KernelState → ℕ → List ℕ → List ℕ → Option Called
 call_row number k pid args bytes =
-    if number == 1 then Some (exited k pid (slice_index args 0)) else
-    (if number == 8 then read_result k pid (slice_index args 0) (slice_index args 2) else
-    (if number == 9 then write_result k pid (slice_index args 0) bytes else
-    (if number == 19 then Some (answers k (pos 0)) else
-    option_map (answers_io k) (io_row number k.io pid args bytes))))
+    if number == EXIT then Some (exited k pid (slice_index args 0)) else
+    (if number == OPEN then Some (answers_io k (open_result k.io pid (slice_index args 1) bytes (slice_index args 2))) else
+    (if number == CLOSE then Some (answers_io k (close_result k.io pid (slice_index args 0))) else
+    (if number == READ then read_result k pid (slice_index args 0) (slice_index args 2) else
+    (if number == WRITE then write_result k pid (slice_index args 0) bytes else
+    (if number == LSEEK then Some (answers_io k (seek_result k.io pid (slice_index args 0) (slice_index args 1) (slice_index args 2))) else
+    (if number == DUP then Some (answers_io k (dup_result k.io pid (slice_index args 0))) else
+    (if number == UNLINK then Some (answers_io k (unlink_result k.io (slice_index args 1) bytes)) else
+    (if number == YIELD then Some (answers k (pos 0)) else None))))))))
 
 abbrev pub call_result : KernelState → ℕ → Request → Option Called
 call_result k pid asked = call_row asked.number k pid asked.args asked.bytes

@@ -8,6 +8,7 @@ use Rattle.fd_table.specs.Descriptors.{FdTable, no_processes, look_at, slots_at,
 use Rattle.fd_table.specs.declared.description.Look.{Look}
 use Rattle.fd_table.specs.declared.description.Target.{Target}
 use Rattle.fd_table.specs.declared.description.Target.TheVariants.{TermIn, TermOut, File, ReadEnd, WriteEnd}
+use Rattle.call_table.specs.declared.limit.TheConstants.{NAMED_FILES, FILE_BYTES, NAME_BYTES, DESCRIPTIONS, DESCRIPTORS}
 use Rattle.call_table.specs.declared.error.TheConstants.{ENOENT, EBADF, EEXIST, EINVAL, ENFILE, EMFILE, ENOSPC, ESPIPE, ENAMETOOLONG}
 
 pub record IoState : Type 0 where
@@ -42,7 +43,7 @@ is_name_byte byte = nat_le 33 byte && (nat_le byte 126 && not (byte == 47))
 -- the error of a name of so many bytes
 abbrev pub name_error : ℕ → List ℕ → Option ℤ
 name_error len name =
-    if nat_lt 64 len then Some ENAMETOOLONG else
+    if nat_lt NAME_BYTES len then Some ENAMETOOLONG else
     (if len == 0 then Some ENOENT else
     (if list_all is_name_byte name then None else Some EINVAL))
 
@@ -64,7 +65,7 @@ flags_error flags = if are_flags flags then None else Some EINVAL
 abbrev pub room_error : FdTable → ℕ → Option ℤ
 room_error fds pid =
     if free_count (slots_at fds.processes pid) == 0 then Some EMFILE else
-    (if nat_le 256 (counted fds.descriptions) then Some ENFILE else None)
+    (if nat_le DESCRIPTIONS (counted fds.descriptions) then Some ENFILE else None)
 
 -- a file is held under the lowest free descriptor
 abbrev pub with_open : IoState → ℕ → ℕ → ℕ → IoState
@@ -90,7 +91,7 @@ open_found io pid id flags = if has_flag flags 16 then fails io EEXIST else open
 abbrev pub open_absent : IoState → ℕ → List ℕ → ℕ → IoDone
 open_absent io pid name flags =
     if not (has_flag flags 4) then fails io ENOENT else
-    (if named_count io.files == 128 then fails io ENOSPC else opened (with_new io name) pid (lowest_free io.files) flags)
+    (if named_count io.files == NAMED_FILES then fails io ENOSPC else opened (with_new io name) pid (lowest_free io.files) flags)
 
 abbrev pub open_called : Option ℕ → IoState → ℕ → List ℕ → ℕ → IoDone
 open_called None io pid name flags = open_absent io pid name flags
@@ -129,7 +130,7 @@ closed_from (suc n) pid fd io = closed_from n pid (fd + 1) (close_result io pid 
 
 -- all 16
 unfoldable pub descriptor_count : ℕ
-descriptor_count = 16
+descriptor_count = DESCRIPTORS
 
 abbrev pub all_closed : IoState → ℕ → IoState
 all_closed io pid = closed_from descriptor_count pid 0 io
@@ -143,7 +144,7 @@ place_from base off =
     (if nat_le (2 ^ 32 - off) base then Some (base - (2 ^ 32 - off)) else None)
 
 abbrev pub in_file : ℕ → Option ℕ
-in_file place = if nat_le place 1048576 then Some place else None
+in_file place = if nat_le place FILE_BYTES then Some place else None
 
 -- from the start, from the offset or from the end
 abbrev pub base_of : ℕ → ℕ → ℕ → Option ℕ

@@ -1,5 +1,5 @@
 -- The kernel: files and descriptors, the terminal, and how processes ended.
-use Rattle.std.specs.Prelude.{ℕ, ◌+◌, ◌-◌, ◌%◌, ◌^◌, List, [], ◌∷◌, ◌++◌, Option, Some, None, if◌then◌else◌, slice_set, length, ℤ, pos, Bool, false, refl}
+use Rattle.std.specs.Prelude.{ℕ, ◌+◌, ◌%◌, ◌^◌, List, [], ◌∷◌, ◌++◌, Option, Some, None, if◌then◌else◌, length, ℤ, pos, Bool, false, refl, ◌&&◌, nat_lt, count_by, is_none}
 use Rattle.std.specs.Coded.{Coded, code_by, coded×, coded_ℕ, coded_list, coded_option, coded_bool}
 use Rattle.call_table.specs.declared.request.Answer.{Answer}
 use Rattle.call_table.specs.declared.request.Kind.TheVariants.{Plain}
@@ -10,6 +10,8 @@ use Rattle.fs_memory.specs.contracts.file.File as file_row
 use Rattle.fs_memory.specs.Files.{FileTable}
 use Rattle.fd_table.specs.contracts.description.Look as look_row
 use Rattle.fd_table.specs.Descriptors.{FdTable, Descriptions, Processes, launched}
+use Rattle.call_table.specs.declared.limit.TheConstants.{PROCESSES, LAST_LAUNCHED}
+use Rattle.kernel_spec.specs.Processes.{at_pid, set_pid, end_of, is_live_end}
 use Rattle.kernel_spec.specs.Io.{IoState, IoDone, no_files, all_closed}
 
 -- what was typed and not read yet, and whether no more comes
@@ -31,10 +33,25 @@ no_input = record { bytes = []; ended = false }
 abbrev pub no_process : KernelState
 no_process = record { io = no_files; terminal = []; input = no_input; ends = [] }
 
+-- how many pids were given
+abbrev pub given : KernelState → ℕ
+given k = length k.ends
+
+-- how a process ended, none where it is live or was never given
+abbrev pub end_at : KernelState → ℕ → Option End
+end_at k pid = end_of (at_pid k.ends pid)
+
+abbrev pub is_live : KernelState → ℕ → Bool
+is_live k pid = is_live_end (at_pid k.ends pid)
+
+-- whether one more process can be launched
+abbrev pub has_room : KernelState → Bool
+has_room k = nat_lt (count_by is_none k.ends) PROCESSES && nat_lt (given k) LAST_LAUNCHED
+
 -- one more process, with the terminal's descriptors
 abbrev pub with_process : KernelState → KernelState
 with_process k = record k {
-  io = record k.io { fds = launched k.io.fds (length k.ends + 1) };
+  io = record k.io { fds = launched k.io.fds (given k + 1) };
   ends = k.ends ++ None ∷ [];
 }
 
@@ -63,7 +80,7 @@ answers_io k done = answers (record k { io = done.io }) done.value
 
 -- a process ends so, and its descriptors are closed
 abbrev pub with_end : KernelState → ℕ → End → KernelState
-with_end k pid e = record k { io = all_closed k.io pid; ends = slice_set k.ends (pid - 1) (Some e) }
+with_end k pid e = record k { io = all_closed k.io pid; ends = set_pid k.ends pid (Some e) }
 
 abbrev pub exited : KernelState → ℕ → ℕ → Called
 exited k pid code = answers (with_end k pid (Exit (code % 256))) (pos 0)

@@ -1,18 +1,15 @@
 -- A run that ended replays, and is lawful.
-use Rattle.std.proofs.Common.{◌≡◌, ℕ, ◌≤◌, List, [], ◌∷◌, reverse, refl, ap, ◌∙◌, sym, subst, arith, Option, Some, true, false, cond, nat_eq, Bool}
-use Rattle.node_event.specs.declared.event.Event.{Event}
+use Rattle.std.proofs.Common.{◌≡◌, ℕ, ◌≤◌, List, [], ◌∷◌, reverse, refl, ap, ◌∙◌, sym, subst, arith, Some, true, false, cond, nat_eq, Bool}
 use Rattle.node_event.specs.declared.script.ScriptLine.{ScriptLine}
 use Rattle.user_spec.specs.User.{UserState}
-use Rattle.one_node.specs.Machine.{MachineState, play}
-use Rattle.mosix_shell.specs.Schedule.{schedule}
 use Rattle.mosix_shell.specs.History.{machine_of, AreStamped}
 use Rattle.mosix_shell.specs.ScriptLaw.{ScriptLaw, command_count}
-use Rattle.mosix_shell.specs.OnceLaw.{OnceLaw, AreGivenBack, phase_of}
+use Rattle.mosix_shell.specs.OnceLaw.{OnceLaw, AreGivenBack}
 use Rattle.mosix_shell.specs.declared.phase.Phase.{Phase}
 use Rattle.mosix_shell.specs.declared.phase.Phase.TheVariants.{Goes}
 use Rattle.mosix_shell.specs.Script.{script_of}
-use Rattle.mosix_shell.specs.Turns.{Moment, Story, story_of, first_event, first_moment, quantum_steps, later_events}
-use Rattle.mosix_shell.specs.Running.{IsRunOfStory, Finishes}
+use Rattle.mosix_shell.specs.Turns.{Story, story_of, first_event, first_moment, quantum_steps, later_events}
+use Rattle.mosix_shell.specs.Running.{IsRunOfStory}
 use Rattle.mosix_shell.specs.Headline.{Replays, IsLawful}
 use Rattle.mosix_shell.specs.OnePlace.{OnePlace}
 use Rattle.mosix_shell.specs.declared.run.Run.{Run}

@@ -1,3 +1,4 @@
+pub mod Truth
 pub mod Written
 pub mod Ascii
 pub mod Walks
@@ -10,4 +11,5 @@ pub mod Headlines
 pub mod Turning
 pub mod Verdicts
 pub mod Assemblies
-pub mod Modes
+pub mod Readings
+pub mod Answering

@@ -1,27 +1,28 @@
 -- A whole run keeps what its history tells, and where the process has ended, every process has.
-use Rattle.std.proofs.Common.{◌≡◌, ℕ, zero, suc, ◌+◌, ◌<◌, ◌≤◌, List, [], ◌∷◌, length, slice_get, refl, ap, ◌∙◌, sym, subst, arith, Option, Some, None, Bool, true, false, cond, nat_eq, ◌==◌, is_some}
-use Rattle.std.specs.List.{list_all}
+use Rattle.std.proofs.Common.{◌≡◌, ℕ, zero, suc, ◌≤◌, List, [], ◌∷◌, length, refl, ap, ◌∙◌, sym, arith, Option, Some, None, Bool, true, false, cond, nat_eq, ◌==◌, is_some}
 use Rattle.std.specs.Option.{option_and_then}
 use Rattle.std.proofs.lemmas.Option.{none-some}
-use Rattle.std.proofs.lemmas.List.{length-set}
-use Rattle.call_table.specs.declared.process.End.{End}
 use Rattle.node_event.specs.declared.event.Event.{Event}
 use Rattle.node_event.specs.declared.event.What.{What}
 use Rattle.node_event.specs.declared.event.What.TheVariants.{Steps, Sent, Got}
 use Rattle.node_event.specs.declared.script.ScriptLine.{ScriptLine}
 use Rattle.user_spec.specs.User.{UserState}
 use Rattle.user_spec.specs.Advance.{Walk, quantum_of, request_of, asked_number}
-use Rattle.one_node.specs.Machine.{MachineState, live_user, ended_of, with_user, if_live, have_ended}
-use Rattle.mosix_shell.specs.OnceLaw.{phase_of, number_asked, way_for, value_gained}
+use Rattle.one_node.specs.Machine.{MachineState, live_user, ended_of, with_user, HaveEnded, value_gained}
+use Rattle.kernel_spec.specs.Kernel.{given, is_live}
+use Rattle.kernel_spec.specs.Processes.{at_pid}
+use Rattle.kernel_spec.proofs.PidLemmas.{length-set_pid}
+use Rattle.mosix_shell.specs.OnceLaw.{number_asked, way_for}
 use Rattle.mosix_shell.specs.declared.phase.Phase.{Phase}
 use Rattle.mosix_shell.specs.declared.phase.Phase.TheVariants.{Goes, Waits, IsServed}
-use Rattle.mosix_shell.specs.Turns.{Moment, Turned, Makes, IsOver, IsUnbuilt, turn_of, turn_in, go_turn, going_turn, sent_turn, steps_turn, serve_turn, served_turn, served_what, served_machine, got_turn, event_after, first_event, first_moment, Story, story, told_by, is_over}
+use Rattle.mosix_shell.specs.Turns.{Moment, Turned, Makes, IsOver, IsUnbuilt, turn_of, turn_in, go_turn, sent_turn, steps_turn, served_turn, served_what, served_machine, event_after, first_event, first_moment, Story, story, told_by, is_over}
 use Rattle.mosix_shell.specs.Script.{script_of}
 use Rattle.mosix_shell.proofs.Walks.{IsWalk, quantum_is}
 use Rattle.mosix_shell.proofs.Telling.{Told, told_steps, told_sent, told_served, told_got}
 use Rattle.mosix_shell.specs.OnePlace.{OnePlace}
 use Rattle.mosix_shell.proofs.Kernels.{served_keeps}
-use Rattle.mosix_shell.proofs.Placing.{IsHome, placed_in, home_steps, home_sent, home_served, home_got, none_placed, home_start}
+use Rattle.mosix_shell.proofs.Truth.{true_false}
+use Rattle.mosix_shell.proofs.Placing.{IsHome, past_live, placed_in, home_steps, home_sent, home_served, home_got, none_placed, home_start}
 
 -- what was sent is what the process asks
 abbrev IsAsked : Phase → MachineState → Type 0
@@ -29,13 +30,10 @@ IsAsked (Waits number) m = number_asked m 1 ≡ Some number
 IsAsked Goes m = Unit {0}
 IsAsked IsServed m = Unit {0}
 
-true-false : true ≡ false → ⊥
-true-false h = cc
-
 -- what is kept: what the history tells, and that there is one process
 pub record Kept (q : ℕ) (setup : List UserState) (script : List ScriptLine) (es : List Event) (now : Moment) : Type 0 where
   pub told : Told q setup script es now
-  pub single : length now.machine.kernel.ends ≡ 1
+  pub single : given now.machine.kernel ≡ 1
   pub context : length now.machine.users ≡ 1
   pub asked : IsAsked now.phase now.machine
   pub home : IsHome es now
@@ -43,7 +41,7 @@ pub record Kept (q : ℕ) (setup : List UserState) (script : List ScriptLine) (e
 
 -- one event more keeps that each live process is in one place
 kept_by : (q : ℕ) (setup : List UserState) (script : List ScriptLine) (es : List Event) (what : What) (now next : Moment) → Kept q setup script es now
-    → Told q setup script (event_after es what ∷ es) next → length next.machine.kernel.ends ≡ 1 → length next.machine.users ≡ 1 → IsAsked next.phase next.machine → IsHome (event_after es what ∷ es) next
+    → Told q setup script (event_after es what ∷ es) next → given next.machine.kernel ≡ 1 → length next.machine.users ≡ 1 → IsAsked next.phase next.machine → IsHome (event_after es what ∷ es) next
     → Kept q setup script (event_after es what ∷ es) next
 kept_by q setup script es what now next k told single context asked home = record {
   told = told;
@@ -78,7 +76,7 @@ going_keeps : (q : ℕ) (setup : List UserState) (script : List ScriptLine) (es 
 going_keeps q setup script es m u w true live is e k = sent_keeps q setup script es m (asked_number (request_of u)) (ap (λ o. asked_number (option_and_then request_of o)) live) k
 going_keeps q setup script es m u w false live is e k =
     kept_by q setup script es (Steps 1 w.went) (record { machine = m; phase = Goes }) (record { machine = with_user m 1 w.user; phase = Goes }) k
-    (told_steps q setup script es m u w live is e k.told) k.single (length-set m.users 0 w.user ∙ k.context) tt (home_steps es m (with_user m 1 w.user) w.went refl k.home)
+    (told_steps q setup script es m u w live is e k.told) k.single (length-set_pid m.users 1 w.user ∙ k.context) tt (home_steps es m (with_user m 1 w.user) w.went refl k.home)
 
 go_keeps : (q : ℕ) (setup : List UserState) (script : List ScriptLine) (es : List Event) (m : MachineState) (o : Option UserState) → 1 ≤ q → live_user m 1 ≡ o
     → Kept q setup script es (record { machine = m; phase = Goes }) → TurnKeeps q setup script es (go_turn q m o)
@@ -147,17 +145,20 @@ start_kept q u name = record {
 
 -- ---- the end
 
-live_or : (ends : List (Option End)) (users : List UserState) → length ends ≡ 1 → length users ≡ 1 → if_live (slice_get ends 0) (slice_get users 0) ≡ None → list_all is_some ends ≡ true
-live_or [] users one user h = absurd (omega (arith, one))
-live_or (None ∷ es) [] one user h = absurd (omega (arith, user))
-live_or (None ∷ es) (u ∷ us) one user h = absurd (none-some u (sym h))
-live_or (Some e ∷ []) users one user h = refl
-live_or (Some e ∷ f ∷ es) users one user h = absurd (omega (arith, one))
+not_live : (b : Bool) (users : List UserState) → length users ≡ 1 → cond b (at_pid users 1) None ≡ None → b ≡ false
+not_live false users one h = refl
+not_live true [] one h = absurd (omega (arith, one))
+not_live true (u ∷ us) one h = absurd (none-some u (sym h))
+
+all_ended : (m : MachineState) → given m.kernel ≡ 1 → is_live m.kernel 1 ≡ false → HaveEnded m
+all_ended m one h zero = refl
+all_ended m one h (suc zero) = h
+all_ended m one h (suc (suc i)) = past_live m.kernel i one
 
 -- nothing is left to do: the process goes no more
 pub record IsFinished (now : Moment) : Type 0 where
   pub goes : now.phase ≡ Goes
-  pub all : have_ended now.machine ≡ true
+  pub all : HaveEnded now.machine
 
 going_on : (m : MachineState) (u : UserState) (w : Walk) (b : Bool) (asked : Option ℕ) → is_over (cond b (sent_turn m asked) (steps_turn m w)) ≡ false
 going_on m u w true None = refl
@@ -166,16 +167,16 @@ going_on m u w false asked = refl
 
 no_more : (q : ℕ) (m : MachineState) (o : Option UserState) → is_over (go_turn q m o) ≡ true → o ≡ None
 no_more q m None h = refl
-no_more q m (Some u) h = let e = going_on m u (quantum_of q u) ((quantum_of q u).went == 0) (asked_number (request_of u)) in absurd (true-false (sym h ∙ e))
+no_more q m (Some u) h = let e = going_on m u (quantum_of q u) ((quantum_of q u).went == 0) (asked_number (request_of u)) in true_false (sym h ∙ e)
 
 served_on : (number : ℕ) (m : MachineState) (o : Option MachineState) → is_over (served_turn number m o) ≡ false
 served_on number m None = refl
 served_on number m (Some n) = refl
 
-finished_in : (q : ℕ) (m : MachineState) (phase : Phase) → length m.kernel.ends ≡ 1 → length m.users ≡ 1 → is_over (turn_in phase q m) ≡ true → IsFinished (record { machine = m; phase = phase })
-finished_in q m Goes one user h = record { goes = refl; all = live_or m.kernel.ends m.users one user (no_more q m (live_user m 1) h) }
-finished_in q m (Waits number) one user h = absurd (true-false (sym h ∙ served_on number m (served_machine (way_for number) m)))
-finished_in q m IsServed one user h = absurd (true-false (sym h))
+finished_in : (q : ℕ) (m : MachineState) (phase : Phase) → given m.kernel ≡ 1 → length m.users ≡ 1 → is_over (turn_in phase q m) ≡ true → IsFinished (record { machine = m; phase = phase })
+finished_in q m Goes one user h = record { goes = refl; all = all_ended m one (not_live (is_live m.kernel 1) m.users user (no_more q m (live_user m 1) h)) }
+finished_in q m (Waits number) one user h = true_false (sym h ∙ served_on number m (served_machine (way_for number) m))
+finished_in q m IsServed one user h = true_false (sym h)
 
 pub finished : (q : ℕ) (setup : List UserState) (script : List ScriptLine) (s : Story) → IsTold q setup script s → s.ended ≡ true → IsFinished s.last
 finished q setup script s t h = finished_in q s.last.machine s.last.phase t.kept.single t.kept.context (sym t.over ∙ h)

@@ -1,32 +1,28 @@
 -- What a history tells: it plays to the moment's machine, and keeps the laws. One turn more keeps all of it.
-use Rattle.std.proofs.Common.{◌≡◌, ◌≢◌, ℕ, zero, suc, ◌+◌, ◌-◌, ◌<◌, ◌≤◌, List, [], ◌∷◌, ◌++◌, length, slice_get, slice_set, refl, ap, ◌∙◌, sym, subst, arith, add-zero, Option, Some, None, Bool, true, false, cond, nat_eq, ◌==◌, is_some, count_by, is_none, ℤ}
+use Rattle.std.proofs.Common.{◌≡◌, ℕ, ◌+◌, ◌≤◌, List, [], ◌∷◌, ◌++◌, slice_get, refl, ap, ◌∙◌, sym, subst, arith, add-zero, Option, Some, None, Bool, true, false, cond, nat_eq, ◌==◌, is_some}
 use Rattle.std.specs.Option.{option_map, option_and_then}
-use Rattle.std.proofs.lemmas.Option.{none-some, same_Some}
+use Rattle.std.proofs.lemmas.Option.{none-some}
 use Rattle.std.proofs.lemmas.Bool.Decides.{nat_tests}
-use Rattle.call_table.specs.declared.process.End.{End}
-use Rattle.call_table.specs.declared.request.Request.{Request}
-use Rattle.call_table.specs.declared.request.Answer.{Answer}
 use Rattle.node_event.specs.declared.event.Event.{Event}
 use Rattle.node_event.specs.declared.event.What.{What}
-use Rattle.node_event.specs.declared.event.What.TheVariants.{Command, Steps, Sent, Served, Got}
+use Rattle.node_event.specs.declared.event.What.TheVariants.{Command, Steps, Sent, Got}
 use Rattle.node_event.specs.declared.event.Way.{Way}
 use Rattle.node_event.specs.declared.event.Way.TheVariants.{Did, Broke, Fell, Paused}
 use Rattle.node_event.specs.declared.script.ScriptLine.{ScriptLine}
 use Rattle.user_spec.specs.User.{UserState}
-use Rattle.user_spec.specs.Advance.{Went, Done, AtCall, Faults, advance, advanced, Walk, quantum_of, request_of, asked_number}
-use Rattle.kernel_spec.specs.Kernel.{KernelState, Called}
-use Rattle.one_node.specs.Machine.{MachineState, start, live_user, ended_of, with_user, done_of, fallen, played, machine_step, and_then, if_live, steps_of, stepped}
+use Rattle.user_spec.specs.Advance.{advanced, Walk}
+use Rattle.kernel_spec.specs.Kernel.{is_live}
+use Rattle.kernel_spec.specs.Processes.{at_pid, set_pid}
+use Rattle.one_node.specs.Machine.{MachineState, live_user, ended_of, with_user, played, machine_step, and_then, steps_of}
 use Rattle.mosix_shell.specs.Schedule.{event_steps, served_step}
 use Rattle.mosix_shell.specs.History.{machine_of, AreStamped}
 use Rattle.mosix_shell.specs.ScriptLaw.{ScriptLaw, ScriptAt, command_count, commands_in}
-use Rattle.mosix_shell.specs.OnceLaw.{OnceLaw, OnceAt, OnceBetween, phase_of, phase_after, number_asked, value_gained, way_for, IsWay, IsWaitingFor, IsQuantum, ServedAs, GotAs}
-use Rattle.mosix_shell.specs.declared.phase.Phase.{Phase}
+use Rattle.mosix_shell.specs.OnceLaw.{OnceLaw, OnceAt, OnceBetween, phase_of, phase_after, number_asked, way_for, IsWay, IsWaitingFor, IsQuantum}
 use Rattle.mosix_shell.specs.declared.phase.Phase.TheVariants.{Goes, Waits, IsServed}
 use Rattle.one_node.specs.declared.step.Step.{Step}
 use Rattle.one_node.specs.declared.step.Step.TheVariants as step
-use Rattle.mosix_shell.specs.Turns.{Moment, Turned, Makes, IsOver, IsUnbuilt, turn_of, turn_in, go_turn, going_turn, sent_turn, steps_turn, serve_turn, served_turn, served_what, served_machine, got_turn, event_after, first_event, first_moment}
-use Rattle.mosix_shell.specs.Script.{script_of}
-use Rattle.mosix_shell.proofs.Walks.{IsWalk, quantum_is}
+use Rattle.mosix_shell.specs.Turns.{Moment, served_what, served_machine, event_after}
+use Rattle.mosix_shell.proofs.Walks.{IsWalk}
 
 pub record Told (quantum : ℕ) (setup : List UserState) (script : List ScriptLine) (es : List Event) (now : Moment) : Type 0 where
   pub plays : machine_of setup script es ≡ Some now.machine
@@ -68,23 +64,22 @@ told_more q setup script es now next what none step phases once t =
 
 -- ---- steps
 
-live_set : (ends : List (Option End)) (users : List UserState) (u v : UserState) → if_live (slice_get ends 0) (slice_get users 0) ≡ Some u → if_live (slice_get ends 0) (slice_get (slice_set users 0 v) 0) ≡ Some v
-live_set [] users u v h = absurd (none-some u h)
-live_set (None ∷ es) [] u v h = absurd (none-some u h)
-live_set (None ∷ es) (x ∷ xs) u v h = refl
-live_set (Some e ∷ es) users u v h = absurd (none-some u h)
+live_set : (b : Bool) (users : List UserState) (u v : UserState) → cond b (at_pid users 1) None ≡ Some u → cond b (at_pid (set_pid users 1 v) 1) None ≡ Some v
+live_set false users u v h = absurd (none-some u h)
+live_set true [] u v h = absurd (none-some u h)
+live_set true (x ∷ xs) u v h = refl
 
 pub live_after : (m : MachineState) (u v : UserState) → live_user m 1 ≡ Some u → live_user (with_user m 1 v) 1 ≡ Some v
-live_after m u v h = live_set m.kernel.ends m.users u v h
+live_after m u v h = live_set (is_live m.kernel 1) m.users u v h
 
 is_zero : (k : ℕ) → (k == 0) ≡ false → 1 ≤ k
 is_zero k h = grind (arith, nat_tests)
 
 steps_made : (m : MachineState) (u : UserState) (w : Walk) → live_user m 1 ≡ Some u → advanced w.went u ≡ Some w.user → (w.went == 0) ≡ false → steps_of m 1 w.went (live_user m 1) ≡ Some (with_user m 1 w.user)
 steps_made m u w live steps some =
-    ap (λ b. cond b None (stepped m 1 (option_and_then (advanced w.went) (live_user m 1)))) some
-    ∙ ap (λ o. stepped m 1 (option_and_then (advanced w.went) o)) live
-    ∙ ap (stepped m 1) steps
+    ap (λ b. cond b None (option_map (with_user m 1) (option_and_then (advanced w.went) (live_user m 1)))) some
+    ∙ ap (λ o. option_map (with_user m 1) (option_and_then (advanced w.went) o)) live
+    ∙ ap (option_map (with_user m 1)) steps
 
 one_step : (setup : List UserState) (s : Step) (m n : MachineState) → machine_step setup s m ≡ Some n → played setup (s ∷ []) m ≡ Some n
 one_step setup s m n h = ap (λ o. and_then o (played setup [])) h

@@ -1,57 +1,109 @@
 -- Turns in the code are turns by definition, and make a story.
-use Rattle.std.proofs.Common.{◌≡◌, ◌≢◌, ℕ, zero, suc, ◌+◌, ◌-◌, ◌<◌, ◌≤◌, List, [], ◌∷◌, reverse, slice_get, slice_set, refl, ap, ◌∙◌, sym, subst, arith, Option, Some, None, Bool, true, false, cond, ◌==◌}
+use Rattle.std.proofs.Common.{◌≡◌, ℕ, zero, suc, ◌+◌, ◌-◌, ◌<◌, ◌≤◌, List, [], ◌∷◌, reverse, refl, ap, ◌∙◌, sym, subst, arith, Option, Some, None, Bool, true, false, cond, ◌==◌, lit≤}
+use Rattle.std.specs.Option.{option_map}
 use Rattle.std.proofs.lemmas.Option.{none-some}
 use Rattle.std.proofs.lemmas.Bool.Decides.{nat_tests}
 use Rattle.call_table.specs.declared.process.End.{End}
 use Rattle.node_event.specs.declared.event.Event.{Event}
 use Rattle.node_event.specs.declared.event.What.{What}
 use Rattle.node_event.specs.declared.event.What.TheVariants as whats
+use Rattle.node_event.specs.declared.event.Way.TheVariants.{Did, Fell}
+use Rattle.call_table.specs.declared.process.Reply3.{Reply3}
 use Rattle.user_spec.specs.User.{UserState}
 use Rattle.user_spec.specs.Advance.{Walk, quantum_of, request_of, asked_number}
-use Rattle.one_node.specs.Machine.{MachineState, live_user, with_user, if_live}
+use Rattle.kernel_spec.specs.Kernel.{is_live}
+use Rattle.kernel_spec.specs.Processes.{at_pid, set_pid}
+use Rattle.one_node.specs.Machine.{MachineState, live_user, ended_of, with_user}
+use Rattle.one_node.specs.Going.{gone, gone_on, gone_in, GoneIn, asks_of, replied_in, fell_in}
+use Rattle.one_node.proofs.Quanta.{asks_there}
+use Rattle.one_node.proofs.Applies.{serves_one, serves_none, falls_as, none_gained}
+use Rattle.mosix_shell.specs.OnceLaw.{way_for}
 use Rattle.mosix_shell.specs.declared.phase.Phase.{Phase}
 use Rattle.mosix_shell.specs.declared.phase.Phase.TheVariants.{Goes, Waits, IsServed}
 use Rattle.one_node.specs.declared.going.Ran.TheVariants as ran
-use Rattle.one_node.specs.Going as going
-use Rattle.mosix_shell.specs.Turns.{Moment, Turned, Makes, IsOver, IsUnbuilt, turn_of, go_turn, going_turn, sent_turn, steps_turn, event_after, Story, story, story_of, told_by, is_over, quantum_steps, later_events, first_event, first_moment}
+use Rattle.mosix_shell.specs.Turns.{Moment, Makes, IsOver, IsUnbuilt, turn_of, go_turn, sent_turn, steps_turn, serve_turn, served_turn, event_after, Story, story, story_of, told_by, is_over, quantum_steps, later_events, first_event, first_moment}
 use Rattle.mosix_shell.specs.Running.{EndsAs, Finishes, IsRunOfStory}
 use Rattle.mosix_shell.specs.declared.run.Run.{Run}
 use Rattle.one_node.specs.declared.going.Ran.{Ran}
 
 -- ---- the process goes
 
-some_steps : (k : ℕ) → 1 ≤ k → (k == 0) ≡ false
-some_steps k h = grind (arith, nat_tests)
+is_zero : (k : ℕ) → (k == 0) ≡ true → k ≡ 0
+is_zero k h = grind (arith, nat_tests)
 
-go_at : (q : ℕ) (m : MachineState) (u : UserState) (o : Option UserState) → o ≡ Some u → go_turn q m o ≡ going_turn m u (quantum_of q u)
-go_at q m u o h = ap (go_turn q m) h
+steps_gone : (m n : MachineState) (u : UserState) (w : Walk) (k : ℕ) (b : Bool)
+    → gone_on m 1 (Some (cond b (record { ran = ran.Asks (asks_of u); user = u }) (record { ran = ran.Steps w.went; user = w.user }))) ≡ record { ran = Some (ran.Steps k); machine = n }
+    → cond b (sent_turn m (asked_number (request_of u))) (steps_turn m w) ≡ Makes (whats.Steps 1 k) (record { machine = n; phase = Goes })
+steps_gone m n u w k true h = absurd (let e : ◌≡◌ {A = Option Ran} (Some (ran.Asks (asks_of u))) (Some (ran.Steps k)) = ap (λ (g : GoneIn). g.ran) h in cc)
+steps_gone m n u w k false h =
+    let e : ◌≡◌ {A = Option Ran} (Some (ran.Steps w.went)) (Some (ran.Steps k)) = ap (λ (g : GoneIn). g.ran) h in
+    let many : w.went ≡ k = cc in
+    ap (λ x. Makes (whats.Steps 1 x) (record { machine = with_user m 1 w.user; phase = Goes })) many
+    ∙ ap (λ (g : GoneIn). Makes (whats.Steps 1 k) (record { machine = g.machine; phase = Goes })) h
 
-pub goes_steps : (q k : ℕ) (m n : MachineState) → going.GoesOn (ran.Steps k) q m 1 n → go_turn q m (live_user m 1) ≡ Makes (whats.Steps 1 k) (record { machine = n; phase = Goes })
-goes_steps q k m n g =
-    go_at q m g.user (live_user m 1) g.here
-    ∙ ap (going_turn m g.user) g.goes.0
-    ∙ ap (λ b. cond b (sent_turn m (asked_number (request_of g.user))) (steps_turn m (record { went = k; user = g.after }))) (some_steps k g.goes.1)
-    ∙ ap (λ x. Makes (whats.Steps 1 k) (record { machine = x; phase = Goes })) (sym g.sets)
+steps_turned : (q k : ℕ) (m n : MachineState) (o : Option UserState) → gone_on m 1 (option_map (gone q) o) ≡ record { ran = Some (ran.Steps k); machine = n } → go_turn q m o ≡ Makes (whats.Steps 1 k) (record { machine = n; phase = Goes })
+steps_turned q k m n None h = absurd (none-some (ran.Steps k) (ap (λ (g : GoneIn). g.ran) h))
+steps_turned q k m n (Some u) h = steps_gone m n u (quantum_of q u) k ((quantum_of q u).went == 0) h
 
-set_same : (es : List (Option End)) (us : List UserState) (u : UserState) → if_live (slice_get es 0) (slice_get us 0) ≡ Some u → slice_set us 0 u ≡ us
-set_same [] us u h = absurd (none-some u h)
-set_same (None ∷ es) [] u h = absurd (none-some u h)
-set_same (None ∷ es) (x ∷ us) u h = let e : u ≡ x = cc in ap (λ y. y ∷ us) e
-set_same (Some e ∷ es) us u h = absurd (none-some u h)
+set_same : (b : Bool) (us : List UserState) (u : UserState) → cond b (at_pid us 1) None ≡ Some u → set_pid us 1 u ≡ us
+set_same false us u h = absurd (none-some u h)
+set_same true [] u h = absurd (none-some u h)
+set_same true (x ∷ us) u h = let e : u ≡ x = cc in ap (λ y. y ∷ us) e
 
 same_machine : (m : MachineState) (u : UserState) → live_user m 1 ≡ Some u → with_user m 1 u ≡ m
-same_machine m u h = ap (λ us. record m { users = us }) (set_same m.kernel.ends m.users u h)
+same_machine m u h = ap (λ us. record m { users = us }) (set_same (is_live m.kernel 1) m.users u h)
 
-no_steps : (k : ℕ) → k ≡ 0 → (k == 0) ≡ true
-no_steps k h = ap (λ n. n == 0) h
+asks_gone : (m n : MachineState) (u : UserState) (w : Walk) (number : ℕ) (b : Bool) → live_user m 1 ≡ Some u → (b ≡ true → asked_number (request_of u) ≡ Some (asks_of u))
+    → gone_on m 1 (Some (cond b (record { ran = ran.Asks (asks_of u); user = u }) (record { ran = ran.Steps w.went; user = w.user }))) ≡ record { ran = Some (ran.Asks number); machine = n }
+    → cond b (sent_turn m (asked_number (request_of u))) (steps_turn m w) ≡ Makes (whats.Sent 1 number) (record { machine = n; phase = Waits number })
+asks_gone m n u w number false here asks h = absurd (let e : ◌≡◌ {A = Option Ran} (Some (ran.Steps w.went)) (Some (ran.Asks number)) = ap (λ (g : GoneIn). g.ran) h in cc)
+asks_gone m n u w number true here asks h =
+    let e : ◌≡◌ {A = Option Ran} (Some (ran.Asks (asks_of u))) (Some (ran.Asks number)) = ap (λ (g : GoneIn). g.ran) h in
+    let same : asks_of u ≡ number = cc in
+    ap (sent_turn m) (asks refl)
+    ∙ ap (λ x. Makes (whats.Sent 1 x) (record { machine = m; phase = Waits x })) same
+    ∙ ap (λ x. Makes (whats.Sent 1 number) (record { machine = x; phase = Waits number })) (sym (same_machine m u here) ∙ ap (λ (g : GoneIn). g.machine) h)
 
-pub goes_asks : (q number : ℕ) (m n : MachineState) → going.GoesOn (ran.Asks number) q m 1 n → go_turn q m (live_user m 1) ≡ Makes (whats.Sent 1 number) (record { machine = n; phase = Waits number })
-goes_asks q number m n g =
-    let same : m ≡ n = sym (g.sets ∙ ap (with_user m 1) g.goes.2 ∙ same_machine m g.user g.here) in
-    go_at q m g.user (live_user m 1) g.here
-    ∙ ap (λ b. cond b (sent_turn m (asked_number (request_of g.user))) (steps_turn m (quantum_of q g.user))) (no_steps (quantum_of q g.user).went g.goes.0)
-    ∙ ap (sent_turn m) g.goes.1
-    ∙ ap (λ x. Makes (whats.Sent 1 number) (record { machine = x; phase = Waits number })) same
+asks_turned : (q number : ℕ) (m n : MachineState) (o : Option UserState) → 1 ≤ q → live_user m 1 ≡ o → gone_on m 1 (option_map (gone q) o) ≡ record { ran = Some (ran.Asks number); machine = n }
+    → go_turn q m o ≡ Makes (whats.Sent 1 number) (record { machine = n; phase = Waits number })
+asks_turned q number m n None low here h = absurd (none-some (ran.Asks number) (ap (λ (g : GoneIn). g.ran) h))
+asks_turned q number m n (Some u) low here h =
+    asks_gone m n u (quantum_of q u) number ((quantum_of q u).went == 0) here (λ z. asks_there q u low (is_zero (quantum_of q u).went z)) h
+
+over_turned : (q : ℕ) (m n : MachineState) (o : Option UserState) → gone_on m 1 (option_map (gone q) o) ≡ record { ran = None; machine = n } → (go_turn q m o ≡ IsOver) × (n ≡ m)
+over_turned q m n None h = (refl, sym (ap (λ (g : GoneIn). g.machine) h))
+over_turned q m n (Some u) h = absurd (none-some (gone q u).ran (sym (ap (λ (g : GoneIn). g.ran) h)))
+
+-- ---- a call or a fault is served
+
+pub serve_made : (number : ℕ) (m n : MachineState) (r : Reply3) (what : What) (end : Option End) (phase : Phase) → 0 < number → replied_in m 1 ≡ record { reply = Some r; machine = n }
+    → what ≡ whats.Served 1 (way_for number) (Some number) (Some r.value) None end false None None → end ≡ ended_of n 1 → phase ≡ IsServed
+    → serve_turn number m ≡ Makes what (record { machine = n; phase = phase })
+serve_made zero m n r what end phase low h w e p = absurd (omega (arith, low))
+serve_made (suc k) m n r what end phase low h w e p =
+    let s = serves_one m n 1 r h in
+    ap (served_turn (suc k) m) s.made
+    ∙ ap (λ v. Makes (whats.Served 1 Did (Some (suc k)) v None (ended_of n 1) false None None) (record { machine = n; phase = IsServed })) s.gained
+    ∙ ap (λ x. Makes (whats.Served 1 Did (Some (suc k)) (Some r.value) None x false None None) (record { machine = n; phase = IsServed })) (sym e)
+    ∙ ap (λ x. Makes x (record { machine = n; phase = IsServed })) (sym w)
+    ∙ ap (λ x. Makes what (record { machine = n; phase = x })) (sym p)
+
+pub serve_unmade : (number : ℕ) (m n : MachineState) → 0 < number → replied_in m 1 ≡ record { reply = None; machine = n } → serve_turn number m ≡ IsUnbuilt
+serve_unmade zero m n low h = absurd (omega (arith, low))
+serve_unmade (suc k) m n low h = ap (served_turn (suc k) m) (serves_none m n 1 h)
+
+pub fall_made : (m n : MachineState) (what : What) (end : Option End) (phase : Phase) → fell_in m 1 ≡ record { fell = true; machine = n } → n.replies ≡ m.replies
+    → what ≡ whats.Served 1 Fell (Some 0) None None end false None None → end ≡ ended_of n 1 → phase ≡ IsServed
+    → serve_turn 0 m ≡ Makes what (record { machine = n; phase = phase })
+fall_made m n what end phase h same w e p =
+    ap (served_turn 0 m) (falls_as m n 1 true h)
+    ∙ ap (λ v. Makes (whats.Served 1 Fell (Some 0) v None (ended_of n 1) false None None) (record { machine = n; phase = IsServed })) (none_gained m n same)
+    ∙ ap (λ x. Makes (whats.Served 1 Fell (Some 0) None None x false None None) (record { machine = n; phase = IsServed })) (sym e)
+    ∙ ap (λ x. Makes x (record { machine = n; phase = IsServed })) (sym w)
+    ∙ ap (λ x. Makes what (record { machine = n; phase = x })) (sym p)
+
+pub fall_unmade : (m n : MachineState) → fell_in m 1 ≡ record { fell = false; machine = n } → serve_turn 0 m ≡ IsUnbuilt
+fall_unmade m n h = ap (served_turn 0 m) (falls_as m n 1 false h)
 
 -- ---- a story, turn by turn
 
@@ -90,20 +142,23 @@ pub events_are : later_events ≡ 262143
 unfolding later_events
 events_are = refl
 
-steps_by : (o : Option Ran) (k : ℕ) (m n : MachineState) → o ≡ Some (ran.Steps k) → going.GoesOr o 16384 m 1 n → going.GoesOn (ran.Steps k) 16384 m 1 n
-steps_by o k m n e g = subst (λ x. going.GoesOr x 16384 m 1 n) e g
+at_quantum : (P : ℕ → Type 0) → P 16384 → P quantum_steps
+at_quantum P h = subst P quantum_is h
 
-pub go_steps : (o : Option Ran) (r : Ran) (k : ℕ) (m n : MachineState) (phase : Phase) → o ≡ Some r → r ≡ ran.Steps k → going.GoesOr o 16384 m 1 n → phase ≡ Goes
+pub go_steps : (o : Option Ran) (r : Ran) (k : ℕ) (m n : MachineState) (phase : Phase) → o ≡ Some r → r ≡ ran.Steps k → gone_in 16384 m 1 ≡ record { ran = o; machine = n } → phase ≡ Goes
     → go_turn quantum_steps m (live_user m 1) ≡ Makes (whats.Steps 1 k) (record { machine = n; phase = phase })
 go_steps o r k m n phase e f g at =
-    subst (λ q. go_turn q m (live_user m 1) ≡ Makes (whats.Steps 1 k) (record { machine = n; phase = phase })) quantum_is
-    (goes_steps 16384 k m n (subst (λ x. going.GoesOr x 16384 m 1 n) (e ∙ ap (λ (y : Ran). Some y) f) g) ∙ ap (λ p. Makes (whats.Steps 1 k) (record { machine = n; phase = p })) (sym at))
+    at_quantum (λ q. go_turn q m (live_user m 1) ≡ Makes (whats.Steps 1 k) (record { machine = n; phase = phase }))
+    (steps_turned 16384 k m n (live_user m 1) (g ∙ ap (λ x. let y : GoneIn = record { ran = x; machine = n } in y) (e ∙ ap (λ (y : Ran). Some y) f)) ∙ ap (λ p. Makes (whats.Steps 1 k) (record { machine = n; phase = p })) (sym at))
 
-pub go_asks : (o : Option Ran) (r : Ran) (number : ℕ) (m n : MachineState) → o ≡ Some r → r ≡ ran.Asks number → going.GoesOr o 16384 m 1 n
+pub go_asks : (o : Option Ran) (r : Ran) (number : ℕ) (m n : MachineState) → o ≡ Some r → r ≡ ran.Asks number → gone_in 16384 m 1 ≡ record { ran = o; machine = n }
     → go_turn quantum_steps m (live_user m 1) ≡ Makes (whats.Sent 1 number) (record { machine = n; phase = Waits number })
 go_asks o r number m n e f g =
-    subst (λ q. go_turn q m (live_user m 1) ≡ Makes (whats.Sent 1 number) (record { machine = n; phase = Waits number })) quantum_is
-    (goes_asks 16384 number m n (subst (λ x. going.GoesOr x 16384 m 1 n) (e ∙ ap (λ (y : Ran). Some y) f) g))
+    at_quantum (λ q. go_turn q m (live_user m 1) ≡ Makes (whats.Sent 1 number) (record { machine = n; phase = Waits number }))
+    (asks_turned 16384 number m n (live_user m 1) (lit≤ tt) refl (g ∙ ap (λ x. let y : GoneIn = record { ran = x; machine = n } in y) (e ∙ ap (λ (y : Ran). Some y) f)))
+
+pub go_over : (m n : MachineState) (phase : Phase) → gone_in 16384 m 1 ≡ record { ran = None; machine = n } → (go_turn quantum_steps m (live_user m 1) ≡ IsOver) × (n ≡ m)
+go_over m n phase g = at_quantum (λ q. (go_turn q m (live_user m 1) ≡ IsOver) × (n ≡ m)) (over_turned 16384 m n (live_user m 1) g)
 
 -- ---- the answers of a run
 

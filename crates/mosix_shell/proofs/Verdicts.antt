@@ -1,29 +1,28 @@
 -- What the parts of the top call come to.
-use Rattle.std.proofs.Common.{◌≡◌, ◌≢◌, ◌⊎◌, inl, inr, ℕ, ◌<◌, ◌≤◌, List, [], ◌∷◌, length, refl, ap, ◌∙◌, sym, subst, arith, Option, Some, None, Result, Ok, Err, Bool, true, false, cond, nat_lt}
+use Rattle.std.proofs.Common.{◌≡◌, ◌⊎◌, inl, inr, ℕ, ◌≤◌, List, [], ◌∷◌, length, refl, ap, ◌∙◌, sym, subst, arith, Option, Some, None, Result, Ok, Err, Bool, true, false, cond, nat_lt}
 use Rattle.std.proofs.lemmas.Bool.Decides.{nat_tests}
-use Rattle.call_table.specs.declared.files.Named.{Named}
-use Rattle.call_table.specs.declared.process.PidState.{PidState}
-use Rattle.outside.specs.Outside.{NamedFile, file_named, Loaded, Appends}
-use Rattle.outside.specs.declared.traits.Failed.{Failed}
+use Rattle.std.proofs.lemmas.Option.{none-some}
+use Rattle.call_table.specs.declared.limit.TheConstants.{IMAGE_BYTES}
+use Rattle.outside.specs.Outside.{NamedFile, file_named, Loaded}
 use Rattle.user_spec.specs.User.{UserState}
 use Rattle.elf_load.specs.Image.{image_of}
-use Rattle.mosix_shell.specs.Report.{report_text}
-use Rattle.mosix_shell.specs.Turns.{story_of, ends}
-use Rattle.mosix_shell.specs.Script.{script_of}
+use Rattle.mosix_shell.specs.Turns.{story_of}
 use Rattle.mosix_shell.specs.Running.{IsRunOfStory}
-use Rattle.mosix_shell.specs.Top.{IsNamed, IsUnnamed, IsImaged, IsLoadedFrom, IsRefused, IsReading, IsInner, IsVerdict, AsVerdict, IsRunOf, WritesLine, WritesRun, text_of, text_of_run, has_run, image_in, image_named, verdict_named, verdict_on, verdict_of}
+use Rattle.mosix_shell.specs.Told.{WhereTold}
+use Rattle.mosix_shell.specs.Why.{has_run, RefusesRun}
+use Rattle.mosix_shell.specs.Verdict.{IsNamed, IsUnnamed, IsImaged, IsLoadedFrom, IsRefused, IsReading, IsVerdict, AsVerdict, IsImageFault, IsRunOf, named_by, image_in, image_named, verdict_named, verdict_on, verdict_of}
 use Rattle.mosix_shell.specs.declared.run.Run.{Run}
-use Rattle.mosix_shell.specs.declared.mosix.Ended.{Ended}
-use Rattle.mosix_shell.specs.declared.mosix.Why.{Why}
-use Rattle.mosix_shell.specs.declared.mosix.Why.TheVariants.{Done, BadWords, BadImage, ReadFault, WriteFault, NoMemory, NotBuilt, BadSource}
+use Rattle.mosix_shell.specs.declared.why.Why.{Why}
+use Rattle.mosix_shell.specs.declared.why.Why.TheVariants.{Done, BadWords, BadImage, ReadFault, WriteFault, NoMemory, NotBuilt, BadSource}
+use Rattle.mosix_shell.proofs.Truth.{false_true}
 use Rattle.mosix_shell.proofs.Headlines.{replays, lawful}
 
 -- ---- the image of a name
 
-not_long : (n : ℕ) → n ≤ 16777216 → nat_lt 16777216 n ≡ false
+not_long : (n : ℕ) → n ≤ IMAGE_BYTES → nat_lt IMAGE_BYTES n ≡ false
 not_long n h = grind (arith, nat_tests)
 
-imaged_in : (file name : List ℕ) (found : Option (List ℕ)) (r : Result UserState ℕ) → found ≡ Some file → length file ≤ 16777216 → image_of file (name ∷ []) ≡ r → image_in found name ≡ r
+imaged_in : (file name : List ℕ) (found : Option (List ℕ)) (r : Result UserState ℕ) → found ≡ Some file → length file ≤ IMAGE_BYTES → image_of file (name ∷ []) ≡ r → image_in found name ≡ r
 imaged_in file name found r e most h =
     ap (λ o. image_in o name) e ∙ ap (λ b. cond b (Err 13) (image_of file (name ∷ []))) (not_long (length file) most) ∙ h
 
@@ -48,87 +47,130 @@ refused_image files called name file read words n k why h c r w e kind is =
 
 -- ---- the verdict
 
+-- by the form of the script alone
+reading_form : (left : Option (List ℕ)) (why : Why) → IsReading why → WhereTold left (λ s. named_by s ≡ None → AsVerdict why NotBuilt)
+reading_form None why r = tt
+reading_form (Some s) NotBuilt r = λ h. refl
+reading_form (Some s) ReadFault r = λ h. tt
+reading_form (Some s) NoMemory r = λ h. tt
+reading_form (Some s) Done r = absurd r
+reading_form (Some s) BadWords r = absurd r
+reading_form (Some s) WriteFault r = absurd r
+reading_form (Some s) (BadImage line kind) r = absurd r
+reading_form (Some s) (BadSource line kind) r = absurd r
+
+no_image : (files : Option (List NamedFile)) (why : Why) → IsReading why → WhereTold files (IsImageFault why)
+no_image None why r = tt
+no_image (Some fs) NotBuilt r = tt
+no_image (Some fs) ReadFault r = tt
+no_image (Some fs) NoMemory r = tt
+no_image (Some fs) Done r = tt
+no_image (Some fs) BadWords r = tt
+no_image (Some fs) WriteFault r = tt
+no_image (Some fs) (BadImage line kind) r = absurd r
+no_image (Some fs) (BadSource line kind) r = tt
+
+reading_fate : (left : Option (List ℕ)) (files : Option (List NamedFile)) (why : Why) → IsReading why → (why ≡ NotBuilt → IsUnnamed left) → WhereTold left (λ s. WhereTold files (λ fs. AsVerdict why (verdict_of s fs)))
+reading_fate None files why r h = tt
+reading_fate (Some s) None why r h = tt
+reading_fate (Some s) (Some fs) NotBuilt r h = ap (λ n. verdict_named n fs) (h refl)
+reading_fate (Some s) (Some fs) ReadFault r h = tt
+reading_fate (Some s) (Some fs) NoMemory r h = tt
+reading_fate (Some s) (Some fs) Done r h = absurd r
+reading_fate (Some s) (Some fs) BadWords r h = absurd r
+reading_fate (Some s) (Some fs) WriteFault r h = absurd r
+reading_fate (Some s) (Some fs) (BadImage line kind) r h = absurd r
+reading_fate (Some s) (Some fs) (BadSource line kind) r h = absurd r
+
 pub verdict_reading : (left : Option (List ℕ)) (files : Option (List NamedFile)) (why : Why) → IsReading why → (why ≡ NotBuilt → IsUnnamed left) → IsVerdict left files why
-verdict_reading None files why r h = tt
-verdict_reading (Some s) None why r h = tt
-verdict_reading (Some s) (Some fs) NotBuilt r h = ap (λ n. verdict_named n fs) (h refl)
-verdict_reading (Some s) (Some fs) ReadFault r h = tt
-verdict_reading (Some s) (Some fs) NoMemory r h = tt
-verdict_reading (Some s) (Some fs) Done r h = absurd r
-verdict_reading (Some s) (Some fs) BadWords r h = absurd r
-verdict_reading (Some s) (Some fs) WriteFault r h = absurd r
-verdict_reading (Some s) (Some fs) (BadImage line kind) r h = absurd r
-verdict_reading (Some s) (Some fs) (BadSource line kind) r h = absurd r
+verdict_reading left files why r h = record { form = reading_form left why r; image = no_image files why r; fate = reading_fate left files why r h }
+
+-- a script with a name is of the form that is built
+named_form : (left : Option (List ℕ)) (name : List ℕ) (why : Why) → IsNamed left name → WhereTold left (λ s. named_by s ≡ None → AsVerdict why NotBuilt)
+named_form None name why named = tt
+named_form (Some s) name why named = λ h. absurd (none-some name (sym h ∙ named))
 
 at_image : (s name : List ℕ) (fs : List NamedFile) (r : Result UserState ℕ) → IsNamed (Some s) name → image_named fs name ≡ r → verdict_of s fs ≡ verdict_on r
 at_image s name fs r named h = ap (λ n. verdict_named n fs) named ∙ ap verdict_on h
 
-pub verdict_image : (left : Option (List ℕ)) (files : Option (List NamedFile)) (name : List ℕ) (why : Why) → IsNamed left name → IsInner why → IsRefused files name why → IsVerdict left files why
-verdict_image None files name why named inner r = tt
-verdict_image (Some s) None name why named inner r = tt
-verdict_image (Some s) (Some fs) name NotBuilt named inner r = absurd r
-verdict_image (Some s) (Some fs) name ReadFault named inner r = tt
-verdict_image (Some s) (Some fs) name NoMemory named inner r = tt
-verdict_image (Some s) (Some fs) name Done named inner r = absurd (inner.not_done refl)
-verdict_image (Some s) (Some fs) name BadWords named inner r = tt
-verdict_image (Some s) (Some fs) name WriteFault named inner r = absurd (inner.not_write refl)
-verdict_image (Some s) (Some fs) name (BadSource line kind) named inner r = absurd r
-verdict_image (Some s) (Some fs) name (BadImage line kind) named inner r = at_image s name fs (Err kind) named r.1 ∙ ap (λ l. BadImage l kind) (sym r.0)
+refused_image_is : (files : Option (List NamedFile)) (name : List ℕ) (why : Why) → IsRefused files name why → WhereTold files (IsImageFault why)
+refused_image_is None name why r = tt
+refused_image_is (Some fs) name (BadImage line kind) r = (r.0, (name, r.1))
+refused_image_is (Some fs) name NotBuilt r = tt
+refused_image_is (Some fs) name ReadFault r = tt
+refused_image_is (Some fs) name NoMemory r = tt
+refused_image_is (Some fs) name Done r = tt
+refused_image_is (Some fs) name BadWords r = tt
+refused_image_is (Some fs) name WriteFault r = tt
+refused_image_is (Some fs) name (BadSource line kind) r = tt
+
+image_fate : (left : Option (List ℕ)) (files : Option (List NamedFile)) (name : List ℕ) (why : Why) → IsNamed left name → RefusesRun why → IsRefused files name why → WhereTold left (λ s. WhereTold files (λ fs. AsVerdict why (verdict_of s fs)))
+image_fate None files name why named inner r = tt
+image_fate (Some s) None name why named inner r = tt
+image_fate (Some s) (Some fs) name NotBuilt named inner r = absurd r
+image_fate (Some s) (Some fs) name ReadFault named inner r = tt
+image_fate (Some s) (Some fs) name NoMemory named inner r = tt
+image_fate (Some s) (Some fs) name Done named inner r = false_true (sym inner.hollow)
+image_fate (Some s) (Some fs) name BadWords named inner r = false_true inner.of_run
+image_fate (Some s) (Some fs) name WriteFault named inner r = false_true (sym inner.hollow)
+image_fate (Some s) (Some fs) name (BadSource line kind) named inner r = absurd r
+image_fate (Some s) (Some fs) name (BadImage line kind) named inner r = at_image s name fs (Err kind) named r.1 ∙ ap (λ l. BadImage l kind) (sym r.0)
+
+pub verdict_image : (left : Option (List ℕ)) (files : Option (List NamedFile)) (name : List ℕ) (why : Why) → IsNamed left name → RefusesRun why → IsRefused files name why → IsVerdict left files why
+verdict_image left files name why named inner r = record { form = named_form left name why named; image = refused_image_is files name why r; fate = image_fate left files name why named inner r }
+
+told_image : (files : Option (List NamedFile)) → WhereTold files (IsImageFault Done)
+told_image None = tt
+told_image (Some fs) = tt
+
+at_end : (left : Option (List ℕ)) (files : Option (List NamedFile)) (name : List ℕ) (u : UserState) (b : Bool) → IsNamed left name → IsImaged files name (Ok u) → (story_of u).ended ≡ b
+    → WhereTold left (λ s. WhereTold files (λ fs. verdict_of s fs ≡ cond b Done NotBuilt))
+at_end None files name u b named image h = tt
+at_end (Some s) None name u b named image h = tt
+at_end (Some s) (Some fs) name u b named image h = at_image s name fs (Ok u) named image ∙ ap (λ c. cond c Done NotBuilt) h
 
 pub verdict_done : (left : Option (List ℕ)) (files : Option (List NamedFile)) (name : List ℕ) (u : UserState) → IsNamed left name → IsImaged files name (Ok u) → (story_of u).ended ≡ true → IsVerdict left files Done
-verdict_done None files name u named image h = tt
-verdict_done (Some s) None name u named image h = tt
-verdict_done (Some s) (Some fs) name u named image h = at_image s name fs (Ok u) named image ∙ ap (λ b. cond b Done NotBuilt) h
+verdict_done left files name u named image h = record { form = named_form left name Done named; image = told_image files; fate = at_end left files name u true named image h }
 
 unbuilt : (left : Option (List ℕ)) (files : Option (List NamedFile)) (name : List ℕ) (u : UserState) → IsNamed left name → IsImaged files name (Ok u) → (story_of u).ended ≡ false → IsVerdict left files NotBuilt
-unbuilt None files name u named image h = tt
-unbuilt (Some s) None name u named image h = tt
-unbuilt (Some s) (Some fs) name u named image h = at_image s name fs (Ok u) named image ∙ ap (λ b. cond b Done NotBuilt) h
+unbuilt left files name u named image h = record { form = named_form left name NotBuilt named; image = no_image files NotBuilt tt; fate = at_end left files name u false named image h }
+
+memory_fate : (left : Option (List ℕ)) (files : Option (List NamedFile)) → WhereTold left (λ s. WhereTold files (λ fs. AsVerdict NoMemory (verdict_of s fs)))
+memory_fate None files = tt
+memory_fate (Some s) None = tt
+memory_fate (Some s) (Some fs) = tt
 
 no_memory : (left : Option (List ℕ)) (files : Option (List NamedFile)) → IsVerdict left files NoMemory
-no_memory None files = tt
-no_memory (Some s) None = tt
-no_memory (Some s) (Some fs) = tt
+no_memory left files = record { form = reading_form left NoMemory tt; image = no_image files NoMemory tt; fate = memory_fate left files }
 
 pub verdict_unbuilt : (left : Option (List ℕ)) (files : Option (List NamedFile)) (name : List ℕ) (u : UserState) (why : Why) → IsNamed left name → IsImaged files name (Ok u) → ((why ≡ NotBuilt) ⊎ (why ≡ NoMemory)) → (why ≡ NotBuilt → (story_of u).ended ≡ false) → IsVerdict left files why
 verdict_unbuilt left files name u why named image (inl e) h = subst (IsVerdict left files) (sym e) (unbuilt left files name u named image (h e))
 verdict_unbuilt left files name u why named image (inr e) h = subst (IsVerdict left files) (sym e) (no_memory left files)
 
+no_write : (files : Option (List NamedFile)) → WhereTold files (IsImageFault WriteFault)
+no_write None = tt
+no_write (Some fs) = tt
+
+-- a run that could not be written is told as one that was
 with_run : (left : Option (List ℕ)) (files : Option (List NamedFile)) (why : Why) → IsVerdict left files Done → has_run why ≡ true → IsVerdict left files why
-with_run None files why h e = tt
-with_run (Some s) None why h e = tt
-with_run (Some s) (Some fs) Done h e = h
-with_run (Some s) (Some fs) WriteFault h e = h
-with_run (Some s) (Some fs) NotBuilt h e = cc
-with_run (Some s) (Some fs) ReadFault h e = cc
-with_run (Some s) (Some fs) NoMemory h e = cc
-with_run (Some s) (Some fs) BadWords h e = cc
-with_run (Some s) (Some fs) (BadImage line kind) h e = cc
-with_run (Some s) (Some fs) (BadSource line kind) h e = cc
+with_run left files Done v e = v
+with_run left files WriteFault v e = record { form = v.form; image = no_write files; fate = v.fate }
+with_run left files NotBuilt v e = false_true e
+with_run left files ReadFault v e = false_true e
+with_run left files NoMemory v e = false_true e
+with_run left files BadWords v e = false_true e
+with_run left files (BadImage line kind) v e = false_true e
+with_run left files (BadSource line kind) v e = false_true e
 
 pub verdict_told : (left : Option (List ℕ)) (files : Option (List NamedFile)) (why : Why) → IsVerdict left files Done → ((has_run why ≡ true) ⊎ (why ≡ NoMemory)) → IsVerdict left files why
 verdict_told left files why h (inl e) = with_run left files why h e
 verdict_told left files why h (inr e) = subst (IsVerdict left files) (sym e) (no_memory left files)
 
+pub verdict_refused : (left : Option (List ℕ)) (files : Option (List NamedFile)) (why told : Why) → IsVerdict left files why → ((told ≡ why) ⊎ (told ≡ NoMemory)) → IsVerdict left files told
+verdict_refused left files why told v (inl e) = subst (IsVerdict left files) (sym e) v
+verdict_refused left files why told v (inr e) = subst (IsVerdict left files) (sym e) (no_memory left files)
+
 -- ---- the run
 
 pub run_of : (left : Option (List ℕ)) (files : Option (List NamedFile)) (name read : List ℕ) (u : UserState) (run : Run) → IsNamed left name → IsLoadedFrom files name u → IsRunOfStory run (story_of u) → IsRunOf left files run
-run_of left files name read u run named loaded r = record { name = name; user = u; named = named; loaded = loaded; replays = replays run u name r; lawful = lawful run u name r }
-
--- ---- what is written
-
-pub written_line : (old new : Option (List ℕ)) (text given : List ℕ) (r : Result (Unit {0}) Failed) → Appends old new given r → given ≡ text → WritesLine old new text
-written_line old new text given r h e = (r, subst (λ t. Appends old new t r) e h)
-
-pub answer_line : (old new : Option (List ℕ)) (x : Ended) (status : ℕ) (why : Why) (given line : List ℕ) (r : Result (Unit {0}) Failed) → x ≡ record { status = status; why = why; run = None } → Appends old new given r → given ≡ line → line ≡ text_of why → WritesLine old new (text_of x.why)
-answer_line old new x status why given line r is h e f = written_line old new (text_of x.why) given r h (e ∙ f ∙ ap (λ (y : Ended). text_of y.why) (sym is))
-
-text_is : (run : Run) (t text : List ℕ) (st : List (ℕ × PidState)) (fs : List Named) → text ≡ report_text t st fs → t ≡ run.terminal → st ≡ run.statuses → fs ≡ run.files → text ≡ text_of_run run
-text_is run t text st fs e a b f =
-    e ∙ ap (λ (x : List ℕ). report_text x st fs) a ∙ ap (λ (x : List (ℕ × PidState)). report_text run.terminal x fs) b ∙ ap (report_text run.terminal run.statuses) f
-
-pub front_of_answer : (x : Ended) (status : ℕ) (run : Run) (t text given : List ℕ) (st : List (ℕ × PidState)) (fs : List Named) (old new : Option (List ℕ)) (e : Failed) → x ≡ record { status = status; why = WriteFault; run = Some run }
-    → given ≡ text → text ≡ report_text t st fs → t ≡ run.terminal → st ≡ run.statuses → fs ≡ run.files → Appends old new given (Err e) → WritesRun old new x.run x.why
-front_of_answer x status run t text given st fs old new e is g q a b f h =
-    let own : WritesRun old new (Some run) WriteFault = (Err e, subst (λ s. Appends old new s (Err e)) (g ∙ text_is run t text st fs q a b f) h) in
-    subst (λ (y : Ended). WritesRun old new y.run y.why) (sym is) own
+run_of left files name read u run named loaded r = record { name = name; user = u; named = named; loaded = loaded; told = r; replays = replays run u name r; lawful = lawful run u name r }

@@ -1,12 +1,10 @@
 -- How far walks go.
-use Rattle.std.proofs.Common.{◌≡◌, ◌≢◌, ℕ, zero, suc, ◌+◌, ◌-◌, ◌<◌, ◌≤◌, refl, ap, ◌∙◌, sym, subst, arith, Option, Some, None, Bool, true, false, nat_le, cond, ◌&&◌, ◌||◌, ◌==◌, ◌^◌, not, slice_index}
+use Rattle.std.proofs.Common.{◌≡◌, ℕ, zero, suc, ◌+◌, ◌-◌, ◌<◌, ◌≤◌, refl, ap, ◌∙◌, sym, subst, arith, Some, Bool, true, false, nat_le, cond, ◌&&◌, ◌||◌}
 use Rattle.std.proofs.lemmas.Bool.Decides.{nat_tests}
-use Rattle.std.proofs.lemmas.Option.{none-some, same_Some}
 use Rattle.user_spec.specs.User.{UserState}
-use Rattle.user_spec.specs.Advance.{Went, Done, AtCall, Faults, advance, advanced, on_done, Walk, walked, walk_on, stays, one_more, quantum_of, grows, pauses, stops_at, user_after, is_at_ecall, core_of, counted, went_of, at_call}
-use Rattle.user_spec.specs.Instruction.{Ran, RanTo, RanAtCall, RanFaults, one_instruction}
-use Rattle.user_spec.specs.Request.{number_of, args_of, break_maps, has_buffer, local_call}
-use Rattle.call_table.specs.Calls.{is_site_local}
+use Rattle.user_spec.specs.Advance.{Went, Done, AtCall, Faults, advance, advanced, on_done, Walk, walked, walk_on, stays, one_more, quantum_of, grows, pauses, stops_at, user_after, counted}
+use Rattle.user_ctx.proofs.Calls.{grows_done}
+use Rattle.user_spec.specs.Request.{local_call}
 
 -- ---- the steps of a walk are steps
 
@@ -77,39 +75,6 @@ pub record IsWalk (quantum : ℕ) (u : UserState) (w : Walk) : Type 0 where
 
 pub walk_is : (k : ℕ) (u : UserState) → IsWalk k u (walked k u)
 walk_is k u = record { steps = walked_steps k u; most = walked_most k u; pauses = walked_pauses k u }
-
-both_first : (a b : Bool) → (a && b) ≡ true → a ≡ true
-both_first true b h = refl
-both_first false b h = h
-
-both_second : (a b : Bool) → (a && b) ≡ true → b ≡ true
-both_second true b h = h
-both_second false b h = cc
-
-not_is : (b : Bool) → not b ≡ true → b ≡ false
-not_is true h = sym h
-not_is false h = refl
-
-at_ecall : (r : Ran) → is_at_ecall r ≡ true → r ≡ RanAtCall
-at_ecall RanAtCall h = refl
-at_ecall (RanTo c) h = cc
-at_ecall (RanFaults signal) h = cc
-
-is_same : (a b : ℕ) → (a == b) ≡ true → a ≡ b
-is_same a b h = grind (arith, nat_tests)
-
--- a growth is a call that ends where the process runs
-pub grows_done : (u : UserState) → grows u ≡ true → advance u ≡ Done (counted (local_call u))
-grows_done u h =
-    let full = nat_le (2 ^ 26) u.count in
-    let r = one_instruction (core_of u) in
-    let rest = (is_at_ecall r && ((number_of u == 18) && break_maps u (slice_index (args_of u) 0))) in
-    let later = both_second (not full) rest h in
-    let ecall = at_ecall r (both_first (is_at_ecall r) ((number_of u == 18) && break_maps u (slice_index (args_of u) 0)) later) in
-    let number = is_same (number_of u) 18 (both_first (number_of u == 18) (break_maps u (slice_index (args_of u) 0)) (both_second (is_at_ecall r) ((number_of u == 18) && break_maps u (slice_index (args_of u) 0)) later)) in
-    ap (λ b. cond b (Faults 24) (went_of u r)) (not_is full (both_first (not full) rest h))
-    ∙ ap (went_of u) ecall
-    ∙ ap (λ n. cond (is_site_local n || not (has_buffer u)) (Done (counted (local_call u))) AtCall) number
 
 -- ---- a quantum whose first step is a growth
 

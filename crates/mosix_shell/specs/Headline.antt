@@ -1,14 +1,13 @@
 -- The headline of a run: its own events, played on one node, give what it tells, and they are lawful.
-use Rattle.std.specs.Prelude.{◌≡◌, ℕ, List, [], ◌∷◌, reverse, Option, Some, true}
+use Rattle.std.specs.Prelude.{◌≡◌, ℕ, List, reverse, Some}
 use Rattle.node_event.specs.declared.script.ScriptLine.{ScriptLine}
 use Rattle.fs_memory.specs.Files.{named_files}
 use Rattle.user_spec.specs.User.{UserState}
-use Rattle.one_node.specs.Machine.{MachineState, play, statuses, have_ended}
+use Rattle.one_node.specs.Machine.{MachineState, play, statuses, HaveEnded}
 use Rattle.mosix_shell.specs.Schedule.{schedule}
 use Rattle.mosix_shell.specs.History.{AreStamped}
 use Rattle.mosix_shell.specs.ScriptLaw.{ScriptLaw, command_count}
 use Rattle.mosix_shell.specs.OnceLaw.{OnceLaw, AreGivenBack}
-use Rattle.mosix_shell.specs.Script.{script_of}
 use Rattle.mosix_shell.specs.OnePlace.{OnePlace}
 use Rattle.mosix_shell.specs.declared.run.Run.{Run}
 use Rattle.mosix_shell.specs.declared.run.Last.TheVariants as last
@@ -23,7 +22,7 @@ pub record Replays (setup : List UserState) (script : List ScriptLine) (run : Ru
   pub replies_are : run.replies ≡ m.replies
   -- the run is done, and every process has ended
   pub done : run.last ≡ last.Done
-  pub ended : have_ended m ≡ true
+  pub ended : HaveEnded m
 
 -- each event is as the laws say, at its own prefix
 pub record IsLawful (quantum : ℕ) (setup : List UserState) (script : List ScriptLine) (run : Run) : Type 0 where

@@ -1,5 +1,5 @@
 -- A history: the events of a run so far, the newest first, so that the prefix before an event is the tail.
-use Rattle.std.specs.Prelude.{◌≡◌, ℕ, ◌+◌, List, [], ◌∷◌, length, Option, Some, None}
+use Rattle.std.specs.Prelude.{◌≡◌, ◌+◌, List, [], ◌∷◌, length, Option, Some}
 use Rattle.node_event.specs.declared.event.Event.{Event}
 use Rattle.node_event.specs.declared.script.ScriptLine.{ScriptLine}
 use Rattle.user_spec.specs.User.{UserState}

@@ -9,5 +9,10 @@ pub mod Turns
 pub mod OnePlace
 pub mod Running
 pub mod Headline
-pub mod Top
+pub mod Told
+pub mod Reading
+pub mod Why
+pub mod Writing
+pub mod Verdict
+pub mod Answers
 pub mod Assembling

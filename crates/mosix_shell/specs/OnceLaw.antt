@@ -1,8 +1,7 @@
 -- The once law: each forwarded call is sent, served once and given back, and each event says what the machine does.
-use Rattle.std.specs.Prelude.{◌≡◌, ◌==◌, ◌≤◌, ◌<◌, if◌then◌else◌, ℕ, ℤ, zero, suc, List, [], ◌∷◌, length, slice_get, Option, Some, None, Bool, true, false, is_some}
-use Rattle.std.specs.Option.{option_map, option_and_then}
+use Rattle.std.specs.Prelude.{◌≡◌, ◌==◌, ◌≤◌, ◌<◌, if◌then◌else◌, ℕ, ℤ, zero, suc, List, [], ◌∷◌, Option, Some, None, Bool, true, false, is_some}
+use Rattle.std.specs.Option.{option_and_then}
 use Rattle.call_table.specs.declared.process.End.{End}
-use Rattle.call_table.specs.declared.process.Reply3.{Reply3}
 use Rattle.node_event.specs.declared.event.Event.{Event}
 use Rattle.node_event.specs.declared.event.What.{What}
 use Rattle.node_event.specs.declared.event.What.TheVariants.{Command, Steps, Sent, Served, Got}
@@ -13,7 +12,7 @@ use Rattle.mosix_shell.specs.declared.phase.Phase.{Phase}
 use Rattle.mosix_shell.specs.declared.phase.Phase.TheVariants.{Goes, Waits, IsServed}
 use Rattle.user_spec.specs.User.{UserState}
 use Rattle.user_spec.specs.Advance.{request_of, asked_number, pauses}
-use Rattle.one_node.specs.Machine.{MachineState, live_user, ended_of}
+use Rattle.one_node.specs.Machine.{MachineState, live_user, ended_of, value_gained}
 use Rattle.mosix_shell.specs.History.{machine_of}
 
 abbrev pub phase_after : ℕ → What → Phase → Phase
@@ -39,13 +38,6 @@ IsWaitingFor IsServed number = ⊥
 -- what a process asks: the number of its call, 0 at a fault
 abbrev pub number_asked : MachineState → ℕ → Option ℕ
 number_asked m pid = asked_number (option_and_then request_of (live_user m pid))
-
-abbrev pub value_in : Reply3 → ℤ
-value_in reply = reply.value
-
--- the value of the reply that the machine gains
-abbrev pub value_gained : MachineState → MachineState → Option ℤ
-value_gained old new = option_map value_in (slice_get new.replies (length old.replies))
 
 -- a call is done, a fault ends its process
 abbrev pub way_for : ℕ → Way

@@ -7,7 +7,7 @@ use Rattle.node_event.specs.declared.event.What.TheVariants.{Command, Got, Depar
 use Rattle.node_event.specs.declared.script.ScriptLine.{ScriptLine}
 use Rattle.user_spec.specs.User.{UserState}
 use Rattle.one_node.specs.Machine.{MachineState}
-use Rattle.kernel_spec.specs.Processes.{at_pid}
+use Rattle.kernel_spec.specs.Kernel.{is_live, end_at}
 use Rattle.mosix_shell.specs.History.{machine_of}
 
 -- a place: at a node, or on the way from one to another
@@ -45,9 +45,9 @@ places p (e ∷ es) = places_after p e.node e.what (places p es)
 
 -- a live process is in one place, one that has ended in at most one, and one that never was in none
 pub record ArePlaced (es : List Event) (m : MachineState) : Type 0 where
-  pub live : (p : ℕ) → at_pid m.kernel.ends p ≡ Some None → (x : Place) × (places p es ≡ x ∷ [])
-  pub ended : (p : ℕ) (e : End) → at_pid m.kernel.ends p ≡ Some (Some e) → (places p es ≡ []) ⊎ ((x : Place) × (places p es ≡ x ∷ []))
-  pub never : (p : ℕ) → at_pid m.kernel.ends p ≡ None → places p es ≡ []
+  pub live : (p : ℕ) → is_live m.kernel p ≡ true → (x : Place) × (places p es ≡ x ∷ [])
+  pub ended : (p : ℕ) (e : End) → end_at m.kernel p ≡ Some e → (places p es ≡ []) ⊎ ((x : Place) × (places p es ≡ x ∷ []))
+  pub never : (p : ℕ) → is_live m.kernel p ≡ false → end_at m.kernel p ≡ None → places p es ≡ []
 
 abbrev pub PlacedIn : List Event → Option MachineState → Type 0
 PlacedIn es None = ⊥

@@ -1,5 +1,5 @@
 -- What the answers of the run's parts tell.
-use Rattle.std.specs.Prelude.{◌≡◌, ℕ, List, [], reverse, Option, Some, None, Bool, true, false}
+use Rattle.std.specs.Prelude.{◌≡◌, List, reverse, Option, Some, None, Bool, true, false}
 use Rattle.node_event.specs.declared.event.Event.{Event}
 use Rattle.fs_memory.specs.Files.{named_files}
 use Rattle.user_spec.specs.User.{UserState}

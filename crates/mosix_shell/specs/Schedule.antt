@@ -1,5 +1,5 @@
 -- The events of a run as steps of the one-node machine.
-use Rattle.std.specs.Prelude.{◌≡◌, ◌==◌, if◌then◌else◌, ℕ, zero, ◌+◌, List, [], ◌∷◌, ◌++◌, Option, Some, None, Bool, true, false}
+use Rattle.std.specs.Prelude.{◌==◌, if◌then◌else◌, ℕ, ◌+◌, List, [], ◌∷◌, ◌++◌, Option, Some, None, Bool, true, false}
 use Rattle.node_event.specs.declared.event.Event.{Event}
 use Rattle.node_event.specs.declared.event.What.{What}
 use Rattle.node_event.specs.declared.event.What.TheVariants.{Command, Steps, Served}

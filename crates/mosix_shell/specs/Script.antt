@@ -1,27 +1,8 @@
 -- The script that is built: one line, `run`, one blank and a name, with or without a newline at its end.
-use Rattle.std.specs.Prelude.{◌≡◌, ℕ, ◌+◌, ◌-◌, ◌<◌, List, [], ◌∷◌, ◌++◌, length, take, drop, Bool, false, ◌&&◌, ◌==◌, nat_le, nat_eq, if◌then◌else◌, Option, Some, None, MatchOption, slice_index, codes}
+use Rattle.std.specs.Prelude.{ℕ, ◌-◌, List, [], ◌∷◌, length, take, drop, Bool, ◌&&◌, ◌==◌, nat_le, nat_eq, if◌then◌else◌, Option, Some, None, slice_index, codes}
 use Rattle.std.specs.List.{starts_with, list_all}
 use Rattle.node_event.specs.declared.script.ScriptLine.{ScriptLine}
 use Rattle.node_event.specs.declared.script.Order.TheVariants.{Run}
-
--- what was read of a source, where it tells: all of it, or that it is longer than the limit
-abbrev pub IsRead : ℕ → Option (List ℕ) → Option (List ℕ) → Type 0
-IsRead limit None r = Unit {0}
-IsRead limit (Some left) r = MatchOption r (limit < length left) (λ bytes. bytes ≡ left)
-
--- the next bytes were read, to the end or so many of them
-abbrev pub IsReadTo : ℕ → Option (List ℕ) → Option (List ℕ) → List ℕ → Type 0
-IsReadTo most None now bytes = now ≡ None
-IsReadTo most (Some left) now bytes = (bytes ≡ take most left) × (now ≡ Some (drop most left))
-
--- these bytes were read, and this is left
-abbrev pub IsFront : List ℕ → List ℕ → Option (List ℕ) → Type 0
-IsFront left bytes None = ⊥
-IsFront left bytes (Some rest) = left ≡ bytes ++ rest
-
-abbrev pub IsReadOn : Option (List ℕ) → List ℕ → Option (List ℕ) → Type 0
-IsReadOn None bytes now = now ≡ None
-IsReadOn (Some left) bytes now = IsFront left bytes now
 
 -- a newline at the end is left out
 abbrev pub body_of : List ℕ → List ℕ

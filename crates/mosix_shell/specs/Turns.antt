@@ -8,10 +8,10 @@ use Rattle.node_event.specs.declared.event.Way.TheVariants.{Did, Broke, Fell, Pa
 use Rattle.user_spec.specs.User.{UserState}
 use Rattle.user_spec.specs.Advance.{Walk, quantum_of, request_of, asked_number}
 use Rattle.kernel_spec.specs.Kernel.{no_process, with_process}
-use Rattle.one_node.specs.Machine.{MachineState, live_user, ended_of, with_user, done_of, fallen}
+use Rattle.one_node.specs.Machine.{MachineState, live_user, ended_of, with_user, done_of, fallen, value_gained}
 use Rattle.mosix_shell.specs.declared.phase.Phase.{Phase}
 use Rattle.mosix_shell.specs.declared.phase.Phase.TheVariants.{Goes, Waits, IsServed}
-use Rattle.mosix_shell.specs.OnceLaw.{value_gained, way_for}
+use Rattle.mosix_shell.specs.OnceLaw.{way_for}
 
 -- the machine, and where process 1 is between its calls
 pub record Moment : Type 0 where

@@ -1,6 +1,8 @@
 -- The words of the modes that are built.
-use Rattle.std.specs.Prelude.{ℕ, List, [], ◌∷◌, Bool, false, ◌&&◌, ◌||◌, nat_eq, codes}
+use Rattle.std.specs.Prelude.{ℕ, List, [], ◌∷◌, Bool, false, ◌&&◌, nat_eq, codes, Option, Some, None, if◌then◌else◌}
 use Rattle.std.specs.Cmp.Lexicographic.{pointwise}
+use Rattle.mosix_shell.specs.declared.words.Mode.{Mode}
+use Rattle.mosix_shell.specs.declared.words.Mode.TheVariants as mode
 
 abbrev pub is_text : List ℕ → List ℕ → Bool
 is_text a b = pointwise nat_eq a b
@@ -19,6 +21,6 @@ is_asm_words (a ∷ []) = is_text a (codes "asm")
 is_asm_words [] = false
 is_asm_words (a ∷ b ∷ rest) = false
 
--- words of either mode
-abbrev pub are_built : List (List ℕ) → Bool
-are_built words = is_run_words words || is_asm_words words
+-- the mode that words ask for, none where they are of no mode
+abbrev pub mode_of : List (List ℕ) → Option Mode
+mode_of words = if is_asm_words words then Some mode.Asm else (if is_run_words words then Some mode.Run else None)

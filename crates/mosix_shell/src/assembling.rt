@@ -1,27 +1,23 @@
 // Mode `asm`: from a text to the file of its program.
 ghost use Rattle.std.specs.Prelude.{◌≡◌, ◌≤◌, ◌+◌, Err, IfErr, IfOk, false};
 ghost use Rattle.outside.specs.Outside.{Appends, HasCause, Rose};
-ghost use Rattle.mosix_shell.specs.Script.{IsReadTo};
-ghost use Rattle.mosix_shell.specs.Top.{has_run};
+ghost use Rattle.mosix_shell.specs.Reading.{Reads, is_failed};
+ghost use Rattle.mosix_shell.specs.Why.{has_run, is_cut};
 ghost use Rattle.mosix_shell.specs.Assembling.{IsMadeFrom, IsReadPast};
 
-use crate::mosix::Why;
-use crate::script::{ReadError, read_to};
+use crate::reading::{ReadError, read_to};
+use crate::why::Why;
 use call_table::Bytes;
+use call_table::limit::{PIECE_BYTES, SOURCE_BYTES};
 use outside::{Failed, Sink, Source};
 use rv_asm::{AsmError, assemble};
 use std::alloc::Global;
 
-/// A text has at most so many bytes: it is read to its end, or to the byte after them.
-const TEXT_BYTES: u32 = 1_048_576;
-
-/// A file is written in pieces of at most this length.
-const PIECE_BYTES: usize = 65_536;
-
 /// The text of a source, or so much of it that it is longer than the limit too.
-#[tactic(auto, using(crate::proofs::Assemblies::read_past))]
+#[tactic(auto, using(crate::proofs::Assemblies::read_past, crate::proofs::Readings::all_read))]
 fn read_text<S: Source>(alloc: Global, source: &mut S, limit: u32) -> Result<Bytes, ReadError>
     ensures ok { IfOk result (IsReadPast limit (S.left source.old)) }
+    ensures reads { Reads (limit + 1) (S.left source.old) (S.left source.new) (is_failed result) }
     ensures later { S.faults source.old ≤ S.faults source.new }
     ensures failed { IfErr result (λ e. e ≡ ReadError.Failed → Rose (S.faults source.old) (S.faults source.new)) }
 {
@@ -32,13 +28,14 @@ fn read_text<S: Source>(alloc: Global, source: &mut S, limit: u32) -> Result<Byt
 }
 
 /// The file of a source's text.
-#[tactic(auto, using(crate::proofs::Assemblies::made_from, crate::proofs::Assemblies::made_nothing))]
+#[tactic(auto, using(crate::proofs::Assemblies::made_from, crate::proofs::Assemblies::made_nothing, crate::proofs::Readings::cut_or_not))]
 pub fn assemble_source<S: Source>(alloc: Global, source: &mut S) -> Result<Bytes, Why>
     ensures made { IsMadeFrom (S.left source.old) result }
+    ensures reads { Reads (SOURCE_BYTES + 1) (S.left source.old) (S.left source.new) (is_cut result) }
     ensures fault { result ≡ Err Why.ReadFault → Rose (S.faults source.old) (S.faults source.new) }
     ensures others { IfErr result (λ why. has_run why ≡ false) }
 {
-    let text = match read_text(alloc, source, TEXT_BYTES) {
+    let text = match read_text(alloc, source, SOURCE_BYTES) {
         Ok(text) => text,
         Err(ReadError::Failed) => return Err(Why::ReadFault),
         Err(ReadError::NoMemory) => return Err(Why::NoMemory),
@@ -57,7 +54,7 @@ pub fn write_file<O: Sink>(out: &mut O, file: &[u8]) -> Result<(), Failed>
 {
     let mut rest = file;
     while !rest.is_empty() {
-        let (piece, more) = rest.split_at(rest.len().min(PIECE_BYTES));
+        let (piece, more) = rest.split_at(rest.len().min(PIECE_BYTES as usize));
         match out.write_all(piece) {
             Ok(()) => {}
             Err(e) => return Err(e),

@@ -4,7 +4,9 @@
 pub mod assembling;
 pub mod mosix;
 pub mod phase;
+pub mod reading;
 pub mod report;
 pub mod run;
 pub mod script;
+pub mod why;
 pub mod words;

@@ -4,12 +4,10 @@ ghost use Rattle.std.specs.List.{flat_map};
 ghost use Rattle.outside.specs.Outside.{Appends, HasCause};
 ghost use Rattle.mosix_shell.specs.Report.{terminal_line, status_line, status_lines, length_text, file_line, file_text, file_texts, report_text};
 
+use call_table::limit::PIECE_BYTES;
 use call_table::{Bytes, ListOf, Named, NoMemory, PidState};
 use outside::{Failed, Sink};
 use std::alloc::{AllocError, Global};
-
-/// Bytes are written in pieces of at most this length.
-const PIECE_BYTES: usize = 65_536;
 
 /// Pieces of a text, in order.
 pub type Pieces = ListOf<Bytes>;
@@ -40,7 +38,7 @@ fn push_bytes(alloc: Global, pieces: &mut Pieces, bytes: &[u8]) -> Result<(), No
 {
     let mut rest = bytes;
     while !rest.is_empty() {
-        let (piece, more) = rest.split_at(rest.len().min(PIECE_BYTES));
+        let (piece, more) = rest.split_at(rest.len().min(PIECE_BYTES as usize));
         pieces.push(Bytes::from_slice(alloc, piece)?)?;
         rest = more;
     }

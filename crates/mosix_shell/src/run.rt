@@ -1,13 +1,13 @@
 // One process at home, from its launch to its end.
 ghost use Rattle.std.specs.Prelude.{◌≡◌, ◌<◌, ◌≤◌, ◌+◌, ◌++◌, ◌∷◌, [], Some, None, IfOk, OnOk, OnErr, IfSome, length, ◌^◌, true, false, reverse};
 ghost use Rattle.user_spec.specs.User.{UserState};
-ghost use Rattle.mosix_shell.specs.OnceLaw.{value_gained, way_for};
-ghost use Rattle.one_node.specs.Machine.{live_user};
+ghost use Rattle.mosix_shell.specs.OnceLaw.{way_for};
+ghost use Rattle.one_node.specs.Machine.{live_user, value_gained};
 ghost use Rattle.mosix_shell.specs.Turns.{Moment, quantum_steps, event_after, first_event, first_moment, turn_of, go_turn, serve_turn, got_turn, story, later_events};
 ghost use Rattle.mosix_shell.specs.Running.{MakesTurn, EndsAs, Finishes, RunsTo, moment};
 
 use crate::phase::Phase;
-use call_table::{Bytes, End, ListOf, NamedFiles, NoMemory, Replies, Statuses};
+use call_table::{Bytes, End, ListOf, NamedFiles, NoMemory, Replies, Reply3, Statuses};
 use node_event::{Event, Events, Way, What};
 use one_node::Step;
 use one_node::going::Ran;
@@ -54,15 +54,33 @@ enum Turn {
     Unbuilt,
 }
 
-/// The event of a call or fault that was served.
-fn served(number: u32, value: Option<i32>, end: Option<End>) -> What
-    ensures { result ≡ What.Served 1 (way_for number) (Some number) value None end false None None }
+/// The event of a call that was served.
+fn served(number: u32, reply: &Reply3, end: Option<End>) -> What
+    requires { 0 < number }
+    ensures { result ≡ What.Served 1 (way_for number) (Some number) (Some reply.now.value) None end false None None }
 {
     What::Served {
         pid: FIRST,
-        way: if number == 0 { Way::Fell } else { Way::Did },
+        way: Way::Did,
         number: Some(number),
-        value,
+        value: Some(reply.value),
+        taken: None,
+        end,
+        more: false,
+        poked: None,
+        poked_too: None,
+    }
+}
+
+/// The event of a fault that was served.
+fn fell(end: Option<End>) -> What
+    ensures { result ≡ What.Served 1 (way_for 0) (Some 0) None None end false None None }
+{
+    What::Served {
+        pid: FIRST,
+        way: Way::Fell,
+        number: Some(0),
+        value: None,
         taken: None,
         end,
         more: false,
@@ -90,11 +108,12 @@ fn go(alloc: Global, home: &mut Home, phase: &mut Phase) -> Result<Turn, NoMemor
 fn fall(home: &mut Home, phase: &mut Phase) -> Turn
     ensures { MakesTurn result (serve_turn 0 home.old) (moment home.old phase.old) (moment home.new phase.new) }
 {
-    if !home.fall(FIRST) {
+    let went = home.fall(FIRST);
+    if !went {
         return Turn::Unbuilt;
     }
     *phase = Phase::IsServed;
-    Turn::Made(served(0, None, home.ended(FIRST)))
+    Turn::Made(fell(home.ended(FIRST)))
 }
 
 /// A call is served, where it is built.
@@ -102,11 +121,14 @@ fn serve(alloc: Global, home: &mut Home, phase: &mut Phase, number: u32) -> Resu
     requires { 0 < number }
     ensures { IfOk result (λ turn. MakesTurn turn (serve_turn number home.old) (moment home.old phase.old) (moment home.new phase.new)) }
 {
-    let Some(reply) = home.serve(alloc, FIRST)? else {
-        return Ok(Turn::Unbuilt);
-    };
-    *phase = Phase::IsServed;
-    Ok(Turn::Made(served(number, Some(reply.value), home.ended(FIRST))))
+    match home.serve(alloc, FIRST)? {
+        Some(reply) => {
+            *phase = Phase::IsServed;
+            let what = served(number, &reply, home.ended(FIRST));
+            Ok(Turn::Made(what))
+        }
+        None => Ok(Turn::Unbuilt),
+    }
 }
 
 /// The answer is given back.

@@ -1,69 +1,12 @@
 // The script: one line, `run`, one blank and a name.
-ghost use Rattle.std.specs.Prelude.{◌≡◌, ◌≤◌, ◌+◌, ◌<◌, List, ℕ, Option, Some, None, length, IfOk, IfErr, OnErr, [], ◌∷◌, IfSome, IsTrue, true, drop};
+ghost use Rattle.std.specs.Prelude.{◌≡◌, ◌≤◌, length, IfOk, [], ◌∷◌, IfSome, IsTrue, true, drop};
 ghost use Rattle.std.specs.List.{list_all};
 ghost use Rattle.std.specs.Option.{option_copied};
-ghost use Rattle.outside.specs.Outside.{Rose};
-ghost use Rattle.mosix_shell.specs.Script.{IsRead, IsReadTo, name_in, body_of, is_name_byte, is_run_line, script_of};
+ghost use Rattle.mosix_shell.specs.Script.{name_in, body_of, is_name_byte, is_run_line, script_of};
 
-use call_table::{Bytes, NoMemory, Text, Words};
+use call_table::{NoMemory, Text, Words};
 use node_event::{Order, Script, ScriptLine};
-use outside::Source;
 use std::alloc::Global;
-
-/// A script has at most so many bytes: it is read to its end, or to the byte after them.
-pub const SCRIPT_BYTES: u32 = 65_536;
-
-/// Why nothing was read.
-#[derive(Clone, Copy, Debug, PartialEq, Eq)]
-pub enum ReadError {
-    Failed,
-    NoMemory,
-}
-
-/// The next bytes of a source: to its end, or so many.
-pub fn read_to<S: Source>(alloc: Global, source: &mut S, most: usize) -> Result<Bytes, ReadError>
-    ensures ok { IfOk result (IsReadTo most (S.left source.old) (S.left source.new)) }
-    ensures later { S.faults source.old ≤ S.faults source.new }
-    ensures failed { IfErr result (λ e. e ≡ ReadError.Failed → Rose (S.faults source.old) (S.faults source.new)) }
-{
-    let mut bytes = Bytes::new(alloc);
-    while bytes.len() < most {
-        let mut chunk = [0u8; 256];
-        let room = chunk.len().min(most - bytes.len());
-        let count = match source.read(&mut chunk[..room]) {
-            Ok(count) => count,
-            Err(_) => return Err(ReadError::Failed),
-        };
-        if count == 0 {
-            return Ok(bytes);
-        }
-        if bytes.push_slice(&chunk[..count]).is_err() {
-            return Err(ReadError::NoMemory);
-        }
-    }
-    Ok(bytes)
-}
-
-/// The whole input, or None where it has more bytes than the limit.
-pub fn read_all<S: Source>(
-    alloc: Global,
-    source: &mut S,
-    limit: u32,
-) -> Result<Option<Bytes>, ReadError>
-    ensures ok { IfOk result (IsRead limit (S.left source.old)) }
-    ensures later { S.faults source.old ≤ S.faults source.new }
-    ensures failed { IfErr result (λ e. e ≡ ReadError.Failed → Rose (S.faults source.old) (S.faults source.new)) }
-{
-    let limit = limit as usize;
-    let bytes = match read_to(alloc, source, limit + 1) {
-        Ok(bytes) => bytes,
-        Err(e) => return Err(e),
-    };
-    if bytes.len() > limit {
-        return Ok(None);
-    }
-    Ok(Some(bytes))
-}
 
 fn is_name_byte(b: u8) -> bool
     ensures { result ≡ is_name_byte b }

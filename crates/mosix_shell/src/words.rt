@@ -1,15 +1,31 @@
 // The words of the program.
 ghost use Rattle.std.specs.Prelude.{◌≡◌};
 ghost use Rattle.std.specs.Option.{option_copied};
-ghost use Rattle.mosix_shell.specs.Words.{is_asm_words, is_run_words};
+ghost use Rattle.mosix_shell.specs.Words.{is_asm_words, is_run_words, mode_of};
 
 use call_table::{Text, Words};
 
-/// Whether the words are `--nodes`, `1`, `run`.
-pub fn is_run_words(words: &Words) -> bool
-    ensures { result ≡ is_run_words words.now }
+/// What the program is asked to do.
+#[derive(Clone, Copy, Debug, PartialEq, Eq)]
+pub enum Mode {
+    /// `--nodes 1 run`
+    Run,
+    /// `asm`
+    Asm,
+}
+
+/// The mode that words ask for. None exactly where they are of no mode.
+pub fn mode_of(words: &Words) -> Option<Mode>
+    ensures { result ≡ mode_of words.now }
 {
-    are_run_words(words.as_slice())
+    let words = words.as_slice();
+    if are_asm_words(words) {
+        return Some(Mode::Asm);
+    }
+    if are_run_words(words) {
+        return Some(Mode::Run);
+    }
+    None
 }
 
 fn are_run_words(words: &[Text]) -> bool
@@ -25,13 +41,6 @@ fn are_run_words(words: &[Text]) -> bool
         return false;
     }
     words[2].as_str() == "run"
-}
-
-/// Whether the words are `asm` alone.
-pub fn is_asm_words(words: &Words) -> bool
-    ensures { result ≡ is_asm_words words.now }
-{
-    are_asm_words(words.as_slice())
 }
 
 fn are_asm_words(words: &[Text]) -> bool

@@ -14,6 +14,3 @@ pub use journal::Journal;
 pub use printing::print_event;
 pub use reading::read_event;
 pub use script::{Order, Script, ScriptLine};
-
-#[cfg(test)]
-mod tests;

@@ -1,51 +1,16 @@
 -- Quanta and steps, by how runs of a process come out.
-use Rattle.std.proofs.Common.{◌≡◌, ◌≢◌, ℕ, zero, suc, ◌+◌, ◌-◌, ◌<◌, ◌≤◌, ◌^◌, refl, ap, ◌∙◌, sym, subst, arith, Option, Some, None, Bool, true, false, nat_le, cond, ◌&&◌, ◌||◌, ◌==◌, not, slice_index}
+use Rattle.std.proofs.Common.{◌≡◌, ◌≢◌, ℕ, zero, suc, ◌+◌, ◌-◌, ◌<◌, ◌≤◌, refl, ap, ◌∙◌, sym, subst, arith, Option, Some, None, Bool, true, false, nat_le, cond, ◌&&◌, ◌==◌, unwrap_or}
 use Rattle.std.proofs.lemmas.Bool.Decides.{nat_tests}
 use Rattle.std.proofs.lemmas.Option.{none-some}
-use Rattle.user_ctx.specs.declared.stop.Stop.{Stop}
-use Rattle.user_ctx.specs.declared.stop.Stop.TheVariants as stops
+use Rattle.user_spec.specs.declared.outcome.Stop.{Stop}
+use Rattle.user_spec.specs.declared.outcome.Stop.TheVariants as stops
 use Rattle.user_ctx.specs.Stopping.{StopsAt}
+use Rattle.user_ctx.proofs.Calls.{grows_done}
 use Rattle.one_node.specs.declared.going.Ran.TheVariants.{Steps, Asks}
-use Rattle.one_node.specs.Going.{Goes, fault_of, signal_in}
-use Rattle.call_table.specs.Calls.{is_site_local}
-use Rattle.call_table.specs.declared.request.Request.{Request}
+use Rattle.one_node.specs.Going.{Gone, gone, gone_by, asks_of}
 use Rattle.user_spec.specs.User.{UserState}
-use Rattle.user_spec.specs.Instruction.{Ran, RanTo, RanAtCall, RanFaults, one_instruction}
-use Rattle.user_spec.specs.Request.{number_of, args_of, break_maps, has_buffer, local_call}
-use Rattle.user_spec.specs.Advance.{Went, Done, AtCall, Faults, advance, advanced, on_done, Walk, walked, walk_on, stays, one_more, quantum_of, grows, user_after, is_at_ecall, core_of, counted, went_of, at_call, request_of, asked_at, asked_number}
-
-both_first : (a b : Bool) → (a && b) ≡ true → a ≡ true
-both_first true b h = refl
-both_first false b h = h
-
-both_second : (a b : Bool) → (a && b) ≡ true → b ≡ true
-both_second true b h = h
-both_second false b h = cc
-
-not_is : (b : Bool) → not b ≡ true → b ≡ false
-not_is true h = sym h
-not_is false h = refl
-
-at_ecall : (r : Ran) → is_at_ecall r ≡ true → r ≡ RanAtCall
-at_ecall RanAtCall h = refl
-at_ecall (RanTo c) h = cc
-at_ecall (RanFaults signal) h = cc
-
-is_same : (a b : ℕ) → (a == b) ≡ true → a ≡ b
-is_same a b h = grind (arith, nat_tests)
-
--- a growth is a call that ends where the process runs
-pub grows_done : (u : UserState) → grows u ≡ true → advance u ≡ Done (counted (local_call u))
-grows_done u h =
-    let full = nat_le (2 ^ 26) u.count in
-    let r = one_instruction (core_of u) in
-    let brk = break_maps u (slice_index (args_of u) 0) in
-    let later = both_second (not full) (is_at_ecall r && ((number_of u == 18) && brk)) h in
-    let ecall = at_ecall r (both_first (is_at_ecall r) ((number_of u == 18) && brk) later) in
-    let number = is_same (number_of u) 18 (both_first (number_of u == 18) brk (both_second (is_at_ecall r) ((number_of u == 18) && brk) later)) in
-    ap (λ b. cond b (Faults 24) (went_of u r)) (not_is full (both_first (not full) (is_at_ecall r && ((number_of u == 18) && brk)) h))
-    ∙ ap (went_of u) ecall
-    ∙ ap (λ n. cond (is_site_local n || not (has_buffer u)) (Done (counted (local_call u))) AtCall) number
+use Rattle.user_spec.specs.Request.{number_of}
+use Rattle.user_spec.specs.Advance.{Went, Done, AtCall, Faults, advance, advanced, on_done, Walk, walked, walk_on, stays, one_more, quantum_of, grows, user_after, request_of, asked_at, asked_number}
 
 -- what does not step does not grow
 no_growth : (u : UserState) (b : Bool) → grows u ≡ b → ((v : UserState) → advance u ≢ Done v) → b ≡ false
@@ -200,24 +165,76 @@ growth_not_went h = cc
 pub fault_not_went : (signal : ℕ) → stops.Fault signal ≢ stops.Went
 fault_not_went signal h = cc
 
+nonzero : (k : ℕ) → 0 < k → (k == 0) ≡ false
+nonzero k h = grind (arith, nat_tests)
+
+is_nothing : (k : ℕ) → k ≡ 0 → (k == 0) ≡ true
+is_nothing k h = ap (λ n. n == 0) h
+
+pub goes_steps : (q k : ℕ) (u v : UserState) → quantum_of q u ≡ record { went = k; user = v } → 0 < k → gone q u ≡ record { ran = Steps k; user = v }
+goes_steps q k u v h low =
+    ap (gone_by u) h
+    ∙ ap (λ b. let g : Gone = cond b (record { ran = Asks (asks_of u); user = u }) (record { ran = Steps k; user = v }) in g) (nonzero k low)
+
+goes_asks : (q number : ℕ) (u : UserState) → (quantum_of q u).went ≡ 0 → asks_of u ≡ number → gone q u ≡ record { ran = Asks number; user = u }
+goes_asks q number u h asks =
+    ap (λ b. let g : Gone = cond b (record { ran = Asks (asks_of u); user = u }) (record { ran = Steps (quantum_of q u).went; user = (quantum_of q u).user }) in g) (is_nothing (quantum_of q u).went h)
+    ∙ ap (λ n. let g : Gone = record { ran = Asks n; user = u } in g) asks
+
+asks_is : (u : UserState) (number : ℕ) → asked_number (request_of u) ≡ Some number → asks_of u ≡ number
+asks_is u number h = ap (λ o. unwrap_or o 0) h
+
+pub goes_went : (q k : ℕ) (u v : UserState) → walked q u ≡ record { went = k; user = v } → 0 < k → gone q u ≡ record { ran = Steps k; user = v }
+goes_went q k u v h low = goes_steps q k u v (quantum_went q k u v h low) low
+
 pub goes_growth : (q n k : ℕ) (u v w x : UserState) (stop : Stop) → 1 ≤ q → walked q u ≡ record { went = n; user = v } → n ≡ 0 → stop ≡ stops.Grows → (stop ≢ stops.Went → StopsAt stop v)
-    → advance v ≡ Done w → walked (q - 1) w ≡ record { went = k; user = x } → Goes (Steps (k + 1)) q u x
-goes_growth q n k u v w x stop low h z e s d rest = (quantum_grown q k u v w x low (at_zero q n u v h z) (stop_is stops.Grows stop v e growth_not_went s) d rest, omega arith)
+    → advance v ≡ Done w → walked (q - 1) w ≡ record { went = k; user = x } → gone q u ≡ record { ran = Steps (k + 1); user = x }
+goes_growth q n k u v w x stop low h z e s d rest =
+    goes_steps q (k + 1) u x (quantum_grown q k u v w x low (at_zero q n u v h z) (stop_is stops.Grows stop v e growth_not_went s) d rest) (omega arith)
 
 pub goes_call : (q n : ℕ) (u v : UserState) (stop : Stop) → walked q u ≡ record { went = n; user = v } → n ≡ 0 → stop ≡ stops.AtCall → (stop ≢ stops.Went → StopsAt stop v)
-    → (number : ℕ) → asked_number (request_of v) ≡ Some number → Goes (Asks number) q u v
+    → (number : ℕ) → asked_number (request_of v) ≡ Some number → gone q u ≡ record { ran = Asks number; user = v }
 goes_call q n u v stop h z e s number asked =
     let at = at_zero q n u v h z in
     let call = stop_is stops.AtCall stop v e call_not_went s in
     let same = stays_there q u v at in
-    (stops_at_call q u v at call, ap (λ y. asked_number (request_of y)) (sym same) ∙ asked, same)
+    goes_asks q number u (stops_at_call q u v at call) (asks_is u number (ap (λ y. asked_number (request_of y)) (sym same) ∙ asked))
+    ∙ ap (λ y. let g : Gone = record { ran = Asks number; user = y } in g) (sym same)
 
-pub goes_fault : (q n signal : ℕ) (u v : UserState) (stop : Stop) → walked q u ≡ record { went = n; user = v } → n ≡ 0 → stop ≡ stops.Fault signal → (stop ≢ stops.Went → StopsAt stop v) → Goes (Asks 0) q u v
+pub goes_fault : (q n signal : ℕ) (u v : UserState) (stop : Stop) → walked q u ≡ record { went = n; user = v } → n ≡ 0 → stop ≡ stops.Fault signal → (stop ≢ stops.Went → StopsAt stop v) → gone q u ≡ record { ran = Asks 0; user = v }
 goes_fault q n signal u v stop h z e s =
     let at = at_zero q n u v h z in
     let fault = stop_is (stops.Fault signal) stop v e (fault_not_went signal) s in
     let same = stays_there q u v at in
-    (stops_at_fault q u v signal at fault, asked_fault u v signal same fault, same)
+    goes_asks q 0 u (stops_at_fault q u v signal at fault) (asks_is u 0 (asked_fault u v signal same fault))
+    ∙ ap (λ y. let g : Gone = record { ran = Asks 0; user = y } in g) (sym same)
+
+-- ---- what a process asks that makes no step
+
+asked_some : (o : Option ℕ) (n : ℕ) → o ≡ Some n → o ≡ Some (unwrap_or o 0)
+asked_some None n h = absurd (none-some n h)
+asked_some (Some m) n h = refl
+
+asks_on : (w : Went) (u : UserState) (go : UserState → Walk) → advance u ≡ w → (walk_on w u go).went ≡ 0 → asked_number (request_of u) ≡ Some (asks_of u)
+asks_on (Done v) u go e h = absurd (let x : (go v).went + 1 ≡ 0 = h in omega (arith, x))
+asks_on AtCall u go e h = asked_some (asked_number (request_of u)) (number_of u) (asked_call u e)
+asks_on (Faults signal) u go e h = asked_some (asked_number (request_of u)) 0 (ap (λ w. asked_number (asked_at w u)) e)
+
+asks_if : (b : Bool) (q : ℕ) (u : UserState) → 1 ≤ q → (cond (b && nat_le 1 q) (one_more (walked (q - 1) (user_after (advance u) u))) (cond b (stays u) (walk_on (advance u) u (walked (q - 1))))).went ≡ 0 → asked_number (request_of u) ≡ Some (asks_of u)
+asks_if false q u low h = asks_on (advance u) u (walked (q - 1)) refl h
+asks_if true q u low h =
+    let at : nat_le 1 q ≡ true = low_is q low in
+    let w = one_more (walked (q - 1) (user_after (advance u) u)) in
+    let some : w.went ≡ 0 = subst (λ b. (cond b w (stays u)).went ≡ 0) at h in
+    absurd (let x : (walked (q - 1) (user_after (advance u) u)).went + 1 ≡ 0 = some in omega (arith, x))
+
+walked_if : (q : ℕ) (u : UserState) → 1 ≤ q → walked q u ≡ cond (grows u) (stays u) (walk_on (advance u) u (walked (q - 1)))
+walked_if zero u low = absurd (omega (arith, low))
+walked_if (suc q) u low = let e : q ≡ suc q - 1 = omega arith in ap (λ k. cond (grows u) (stays u) (walk_on (advance u) u (walked k))) e
+
+pub asks_there : (q : ℕ) (u : UserState) → 1 ≤ q → (quantum_of q u).went ≡ 0 → asked_number (request_of u) ≡ Some (asks_of u)
+asks_there q u low h =
+    asks_if (grows u) q u low (subst (λ (w : Walk). (cond (grows u && nat_le 1 q) (one_more (walked (q - 1) (user_after (advance u) u))) w).went ≡ 0) (walked_if q u low) h)
 
 -- ---- how steps come out
 
@@ -253,7 +270,3 @@ run_fault stop signal v e h = stop_is (stops.Fault signal) stop v e (fault_not_w
 
 pub is_short : (a stop : Stop) (n k : ℕ) → stop ≡ a → a ≢ stops.Went → (stop ≢ stops.Went → n < k) → n < k
 is_short a stop n k e ne h = h (λ w. ne (sym e ∙ w))
-
--- a growth is no fault
-pub growth_no_fault : (u : UserState) → grows u ≡ true → fault_of u ≡ None
-growth_no_fault u h = ap signal_in (grows_done u h)

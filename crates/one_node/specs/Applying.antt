@@ -1,7 +1,6 @@
 -- What the answer of a step tells.
 use Rattle.std.specs.Prelude.{◌≡◌, Option, Some, None}
-use Rattle.one_node.specs.Machine.{MachineState}
-use Rattle.mosix_shell.specs.OnceLaw.{value_gained}
+use Rattle.one_node.specs.Machine.{MachineState, value_gained}
 use Rattle.one_node.specs.declared.home.Applied.{Applied}
 use Rattle.one_node.specs.declared.home.Applied.TheVariants.{Not, Did}
 

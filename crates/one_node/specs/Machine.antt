@@ -1,10 +1,7 @@
 -- The one-node machine: the system without nodes, letters or migration.
-use Rattle.std.specs.Prelude.{ℕ, zero, suc, ◌+◌, ◌-◌, ◌^◌, List, [], ◌∷◌, ◌++◌, Option, Some, None, ◌==◌, ◌&&◌, if◌then◌else◌, slice_get, slice_set, length, nat_lt, ℤ, count_by, is_none, is_some, refl, ◌≡◌, Bool, true, false}
-use Rattle.std.specs.Option.{option_and_then}
-use Rattle.std.specs.List.{list_all}
+use Rattle.std.specs.Prelude.{ℕ, zero, suc, ◌+◌, List, [], ◌∷◌, ◌++◌, Option, Some, None, ◌==◌, if◌then◌else◌, slice_get, length, ℤ, refl, ◌≡◌, Bool, true, false}
+use Rattle.std.specs.Option.{option_map, option_and_then}
 use Rattle.std.specs.Coded.{Coded, code_by, coded×, coded_list}
-use Rattle.call_table.specs.declared.request.Request.{Request}
-use Rattle.call_table.specs.declared.request.Answer.{Answer}
 use Rattle.call_table.specs.declared.process.End.{End}
 use Rattle.call_table.specs.declared.process.End.TheVariants as ends
 use Rattle.call_table.specs.declared.process.PidState.{PidState}
@@ -14,8 +11,8 @@ use Rattle.call_table.specs.contracts.process.Reply3 as reply_row
 use Rattle.user_spec.specs.User.{UserState, coded_user}
 use Rattle.user_spec.specs.Request.{call_request, returned}
 use Rattle.user_spec.specs.Advance.{Went, Done, AtCall, Faults, advance, advanced}
-use Rattle.kernel_spec.specs.Kernel.{KernelState, Called, no_process, with_process, with_end, coded_kernel}
-use Rattle.kernel_spec.specs.Processes.{at_pid, end_of}
+use Rattle.kernel_spec.specs.Kernel.{KernelState, Called, no_process, with_process, with_end, given, end_at, is_live, has_room, coded_kernel}
+use Rattle.kernel_spec.specs.Processes.{at_pid, set_pid}
 use Rattle.kernel_spec.specs.Calls.{call_result}
 use Rattle.one_node.specs.declared.step.Step.{Step}
 use Rattle.one_node.specs.declared.step.Step.TheVariants.{Launch, Steps, Do, Break, Take, Fall}
@@ -33,45 +30,32 @@ start = record { kernel = no_process; users = []; replies = [] }
 -- ---- processes by number
 
 -- the context of a live process
-abbrev pub if_live : Option (Option End) → Option UserState → Option UserState
-if_live (Some None) user = user
-if_live (Some (Some e)) user = None
-if_live None user = None
-
 abbrev pub live_user : MachineState → ℕ → Option UserState
-live_user m pid = if_live (at_pid m.kernel.ends pid) (at_pid m.users pid)
+live_user m pid = if is_live m.kernel pid then at_pid m.users pid else None
 
 abbrev pub ended_of : MachineState → ℕ → Option End
-ended_of m pid = end_of (at_pid m.kernel.ends pid)
+ended_of m pid = end_at m.kernel pid
+
+abbrev pub with_user : MachineState → ℕ → UserState → MachineState
+with_user m pid u = record m { users = set_pid m.users pid u }
 
 -- ---- launch
 
 -- the next process
 abbrev pub next_pid : MachineState → ℕ
-next_pid m = length m.users + 1
-
--- at most 64 processes live, and pids go to 32,767
-abbrev pub can_launch : MachineState → Bool
-can_launch m = nat_lt (count_by is_none m.kernel.ends) 64 && nat_lt (length m.users) 32767
+next_pid m = given m.kernel + 1
 
 abbrev pub launched : Option UserState → MachineState → Option MachineState
 launched None m = None
 launched (Some u) m =
-    if can_launch m
+    if has_room m.kernel
     then Some (record { kernel = with_process m.kernel; users = m.users ++ record u { pid = next_pid m } ∷ []; replies = m.replies })
     else None
 
 -- ---- steps
 
-abbrev pub with_user : MachineState → ℕ → UserState → MachineState
-with_user m pid u = record m { users = slice_set m.users (pid - 1) u }
-
-abbrev pub stepped : MachineState → ℕ → Option UserState → Option MachineState
-stepped m pid None = None
-stepped m pid (Some u) = Some (with_user m pid u)
-
 abbrev pub steps_of : MachineState → ℕ → ℕ → Option UserState → Option MachineState
-steps_of m pid k user = if k == 0 then None else stepped m pid (option_and_then (advanced k) user)
+steps_of m pid k user = if k == 0 then None else option_map (with_user m pid) (option_and_then (advanced k) user)
 
 -- ---- a served call
 
@@ -97,23 +81,28 @@ served_at k pid u (Faults signal) = None
 abbrev pub served : KernelState → ℕ → UserState → Option Served
 served k pid u = served_at k pid u (advance u)
 
-abbrev pub with_served : MachineState → ℕ → Option Served → Option MachineState
-with_served m pid None = None
-with_served m pid (Some s) = Some (record { kernel = s.kernel; users = slice_set m.users (pid - 1) s.user; replies = m.replies ++ s.reply ∷ [] })
+abbrev pub with_served : MachineState → ℕ → Served → MachineState
+with_served m pid s = record { kernel = s.kernel; users = set_pid m.users pid s.user; replies = m.replies ++ s.reply ∷ [] }
 
 abbrev pub done_of : MachineState → ℕ → Option UserState → Option MachineState
-done_of m pid user = with_served m pid (option_and_then (served m.kernel pid) user)
+done_of m pid user = option_map (with_served m pid) (option_and_then (served m.kernel pid) user)
 
 -- ---- a fault
 
-abbrev pub fallen_at : MachineState → ℕ → Went → Option MachineState
-fallen_at m pid (Faults signal) = Some (record m { kernel = with_end m.kernel pid (ends.Signal signal) })
-fallen_at m pid (Done v) = None
-fallen_at m pid AtCall = None
+abbrev pub signal_in : Went → Option ℕ
+signal_in (Faults signal) = Some signal
+signal_in (Done u) = None
+signal_in AtCall = None
+
+-- the signal of the fault that a process is at
+abbrev pub fault_of : UserState → Option ℕ
+fault_of u = signal_in (advance u)
+
+abbrev pub with_fall : MachineState → ℕ → ℕ → MachineState
+with_fall m pid signal = record m { kernel = with_end m.kernel pid (ends.Signal signal) }
 
 abbrev pub fallen : MachineState → ℕ → Option UserState → Option MachineState
-fallen m pid None = None
-fallen m pid (Some u) = fallen_at m pid (advance u)
+fallen m pid user = option_map (with_fall m pid) (option_and_then fault_of user)
 
 -- ---- one step, none where its condition fails
 
@@ -139,6 +128,15 @@ played setup (step ∷ steps) m = and_then (machine_step setup step m) (played s
 abbrev pub play : List UserState → List Step → Option MachineState
 play setup steps = played setup steps start
 
+-- ---- what a step tells
+
+abbrev pub value_in : Reply3 → ℤ
+value_in reply = reply.value
+
+-- the value of the reply that the machine gains
+abbrev pub value_gained : MachineState → MachineState → Option ℤ
+value_gained old new = option_map value_in (slice_get new.replies (length old.replies))
+
 -- a test says whether there is an outcome, and then the state after it
 abbrev pub Moves : {A : Type 0} → Bool → Option A → A → Type 0
 Moves true m new = m ≡ Some new
@@ -151,17 +149,17 @@ state_of None = states.Live
 state_of (Some (ends.Exit code)) = states.Exit code
 state_of (Some (ends.Signal signal)) = states.Signal signal
 
--- of the processes from a pid on
-abbrev pub statuses_from : ℕ → List (Option End) → List (ℕ × PidState)
-statuses_from pid [] = []
-statuses_from pid (e ∷ es) = (pid, state_of e) ∷ statuses_from (pid + 1) es
+-- of so many processes from a pid on
+abbrev pub statuses_from : KernelState → ℕ → ℕ → List (ℕ × PidState)
+statuses_from k pid zero = []
+statuses_from k pid (suc n) = (pid, state_of (end_at k pid)) ∷ statuses_from k (pid + 1) n
 
 abbrev pub statuses : MachineState → List (ℕ × PidState)
-statuses m = statuses_from 1 m.kernel.ends
+statuses m = statuses_from m.kernel 1 (given m.kernel)
 
 -- every process has ended
-abbrev pub have_ended : MachineState → Bool
-have_ended m = list_all is_some m.kernel.ends
+abbrev pub HaveEnded : MachineState → Type 0
+HaveEnded m = (pid : ℕ) → is_live m.kernel pid ≡ false
 
 -- ---- how these are told apart
 

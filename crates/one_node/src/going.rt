@@ -1,11 +1,12 @@
-// Calls on the lists that make up the system.
-ghost use Rattle.std.specs.Prelude.{Some, None, IfSome, IsSome, ◌≢◌, ◌≡◌, ◌+◌, ◌-◌, ◌<◌, ◌≤◌, ◌^◌, IfOk, OnErr, OnOk, slice_get, slice_set, length, vec_len};
+// Calls on the parts that make up the system.
+ghost use Rattle.std.specs.Prelude.{Some, IsSome, ◌≡◌, ◌<◌, ◌≤◌, IfOk, slice_get, slice_set, vec_len};
 ghost use Rattle.std.specs.Option.{option_map, option_and_then};
 ghost use Rattle.user_spec.specs.Advance.{advanced, request_of, asked_number};
+ghost use Rattle.kernel_spec.specs.Kernel.{given};
 ghost use Rattle.kernel_spec.specs.Calls.{call_result};
-ghost use Rattle.one_node.specs.Machine.{Moves, served};
 ghost use Rattle.home_kernel.specs.Serving.{Calls, IsLive};
-ghost use Rattle.one_node.specs.Going.{Goes, GoesAt, fault_of, Serves, ServesAt};
+ghost use Rattle.one_node.specs.Machine.{Moves};
+ghost use Rattle.one_node.specs.Going.{gone, gone_at, replied, replied_at, faulted, faulted_at};
 
 use call_table::{Answer, NoMemory, Reply3, Request};
 use home_kernel::{Kernel, Served};
@@ -33,7 +34,7 @@ fn asked(alloc: Global, user: &User) -> Result<u32, NoMemory>
 /// At most a quantum of steps, or what the process asks.
 pub fn go(alloc: Global, user: &mut User, quantum: u32) -> Result<Ran, NoMemory>
     requires { 1 ≤ quantum }
-    ensures { IfOk result (λ ran. Goes ran quantum user.old user.new) }
+    ensures { IfOk result (λ ran. gone quantum user.old ≡ record { ran = ran; user = user.new }) }
 {
     let (went, stop) = user.run(quantum);
     if went > 0 {
@@ -55,14 +56,12 @@ pub fn go(alloc: Global, user: &mut User, quantum: u32) -> Result<Ran, NoMemory>
 pub fn go_at(alloc: Global, users: &mut Vec<User>, i: usize, quantum: u32) -> Result<Ran, NoMemory>
     requires within { i < vec_len users.old }
     requires some { 1 ≤ quantum }
-    ensures ok { IfOk result (λ ran. GoesAt ran quantum users.old.items i users.new.items) }
+    ensures ok { IfOk result (λ ran. gone_at users.old.items i (option_map (gone quantum) (slice_get users.old.items i)) ≡ Some (record { ran = ran; users = users.new.items })) }
     ensures len { vec_len users.new ≡ vec_len users.old }
 {
     let user = &mut users[i];
-    match go(alloc, user, quantum) {
-        Ok(ran) => Ok(ran),
-        Err(e) => Err(e),
-    }
+    let ran = go(alloc, user, quantum)?;
+    Ok(ran)
 }
 
 /// So many steps, if each of them goes.
@@ -93,13 +92,11 @@ pub fn steps_at(users: &mut Vec<User>, i: usize, k: u32) -> Result<bool, NoMemor
     ensures len { vec_len users.new ≡ vec_len users.old }
 {
     let user = &mut users[i];
-    match steps(user, k) {
-        Ok(went) => Ok(went),
-        Err(e) => Err(e),
-    }
+    let went = steps(user, k)?;
+    Ok(went)
 }
 
-/// The answer of a call, None where it blocks or is not built.
+/// The answer of a call, None where it blocks or is not built. Then, and at want of memory, nothing changes.
 fn answer_of(
     alloc: Global,
     kernel: &mut Kernel,
@@ -108,7 +105,7 @@ fn answer_of(
 ) -> Result<Option<Answer>, NoMemory>
     requires { IsLive kernel.old pid }
     ensures ok { IfOk result (λ answer. Calls answer (call_result kernel.old pid request.now) kernel.old kernel.new) }
-    ensures len { length kernel.new.ends ≡ length kernel.old.ends }
+    ensures given { given kernel.new ≡ given kernel.old }
 {
     match kernel.serve(alloc, pid, request)? {
         Served::Done { answer, .. } => Ok(Some(answer)),
@@ -128,7 +125,7 @@ fn reply_of(pid: u32, number: u32, answer: &Answer) -> Reply3
     }
 }
 
-/// The forwarded call of a live process, where it is at one that is built.
+/// The forwarded call of a live process, where it is at one that is built. A process that is at none makes its next step.
 fn serve(
     alloc: Global,
     kernel: &mut Kernel,
@@ -136,9 +133,8 @@ fn serve(
     pid: u32,
 ) -> Result<Option<Reply3>, NoMemory>
     requires { IsLive kernel.old pid }
-    ensures ok { IfOk result (λ reply. Serves reply (served kernel.old pid user.old) kernel.new user.new) }
-    ensures pid { IfOk result (λ reply. IfSome reply (λ r. r.pid ≡ pid)) }
-    ensures len { length kernel.new.ends ≡ length kernel.old.ends }
+    ensures ok { IfOk result (λ reply. replied kernel.old pid user.old ≡ record { reply = reply; kernel = kernel.new; user = user.new }) }
+    ensures given { given kernel.new ≡ given kernel.old }
 {
     match user.step() {
         Stop::AtCall => {}
@@ -147,11 +143,13 @@ fn serve(
         Stop::Fault(_) => return Ok(None),
     }
     let request = user.request(alloc)?;
-    let Some(answer) = answer_of(alloc, kernel, pid, &request)? else {
-        return Ok(None);
-    };
-    user.give(&answer);
-    Ok(Some(reply_of(pid, request.number, &answer)))
+    match answer_of(alloc, kernel, pid, &request)? {
+        Some(answer) => {
+            user.give(&answer);
+            Ok(Some(reply_of(pid, request.number, &answer)))
+        }
+        None => Ok(None),
+    }
 }
 
 /// The same for the process at an index.
@@ -164,30 +162,34 @@ pub fn serve_at(
 ) -> Result<Option<Reply3>, NoMemory>
     requires live { IsLive kernel.old pid }
     requires within { i < vec_len users.old }
-    ensures ok { IfOk result (λ r. ServesAt r (option_and_then (served kernel.old pid) (slice_get users.old.items i)) kernel.new users.old.items i users.new.items) }
-    ensures pid { IfOk result (λ reply. IfSome reply (λ r. r.pid ≡ pid)) }
-    ensures kernel_len { length kernel.new.ends ≡ length kernel.old.ends }
+    ensures ok { IfOk result (λ r. replied_at users.old.items i (option_map (replied kernel.old pid) (slice_get users.old.items i)) ≡ Some (record { reply = r; kernel = kernel.new; users = users.new.items })) }
+    ensures given { given kernel.new ≡ given kernel.old }
     ensures len { vec_len users.new ≡ vec_len users.old }
 {
     let user = &mut users[i];
-    match serve(alloc, kernel, user, pid)? {
-        Some(reply) => Ok(Some(reply)),
-        None => Ok(None),
-    }
+    let reply = serve(alloc, kernel, user, pid)?;
+    Ok(reply)
 }
 
-/// The signal of the fault that the process at an index is at. The process is as it was.
-pub fn fault_at(users: &mut Vec<User>, i: usize) -> Option<u8>
-    requires { i < vec_len users.old }
-    ensures is { result ≡ option_and_then fault_of (slice_get users.old.items i) }
-    ensures same { IfSome result (λ _. users.new.items ≡ users.old.items) }
-    ensures len { vec_len users.new ≡ vec_len users.old }
+/// The signal of the fault that a process is at. A process that is at none makes its next step.
+fn fault(user: &mut User) -> Option<u8>
+    ensures { faulted user.old ≡ record { signal = result; user = user.new } }
 {
-    let user = &mut users[i];
     match user.step() {
         Stop::Fault(signal) => Some(signal),
         Stop::Went => None,
         Stop::AtCall => None,
         Stop::Grows => None,
     }
+}
+
+/// The same for the process at an index.
+pub fn fault_at(users: &mut Vec<User>, i: usize) -> Option<u8>
+    requires { i < vec_len users.old }
+    ensures is { faulted_at users.old.items i (option_map faulted (slice_get users.old.items i)) ≡ Some (record { signal = result; users = users.new.items }) }
+    ensures len { vec_len users.new ≡ vec_len users.old }
+{
+    let user = &mut users[i];
+    let signal = fault(user);
+    signal
 }

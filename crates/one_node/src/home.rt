@@ -1,11 +1,11 @@
 // The plain system on one node as one value.
-ghost use Rattle.std.specs.Prelude.{◌≢◌, ◌≡◌, ◌+◌, ◌-◌, ◌<◌, ◌≤◌, ◌^◌, Some, None, IfOk, OnOk, slice_get, length, IfSome, is_some, ◌++◌, ◌∷◌, [], true, false, IsTrue, vec_len, if◌then◌else◌};
-ghost use Rattle.fs_memory.specs.Files.{named_files};
-ghost use Rattle.one_node.specs.Machine.{MachineState, start, launched, steps_of, live_user, done_of, fallen, machine_step, ended_of, statuses, Moves};
-ghost use Rattle.kernel_spec.specs.Processes.{at_pid};
-ghost use Rattle.one_node.specs.Going.{GoesOr};
-ghost use Rattle.one_node.specs.Applying.{AppliedAs};
+ghost use Rattle.std.specs.Prelude.{◌≡◌, ◌+◌, ◌-◌, ◌<◌, ◌≤◌, Some, None, IfOk, slice_get, IfSome, ◌++◌, ◌∷◌, [], true, false, vec_len, if◌then◌else◌};
 ghost use Rattle.std.specs.Option.{option_copied};
+ghost use Rattle.fs_memory.specs.Files.{named_files};
+ghost use Rattle.kernel_spec.specs.Processes.{at_pid};
+ghost use Rattle.one_node.specs.Machine.{MachineState, start, launched, steps_of, live_user, machine_step, ended_of, statuses, Moves};
+ghost use Rattle.one_node.specs.Going.{gone_in, replied_in, fell_in};
+ghost use Rattle.one_node.specs.Applying.{AppliedAs};
 
 use crate::going::{Ran, fault_at, go_at, serve_at, steps_at};
 use crate::report::statuses;
@@ -52,36 +52,44 @@ pub struct Outcome {
 pub struct Home {
     kernel: Kernel,
     users: Vec<User>,
-    replies: Replies,
+    replies: Vec<Reply3>,
 }
 
 impl Model for Home {
-    ghost use Rattle.std.specs.Prelude.{◌≡◌, length, vec_len};
+    ghost use Rattle.std.specs.Prelude.{◌≡◌, vec_len};
+    ghost use Rattle.kernel_spec.specs.Kernel.{given};
     ghost use Rattle.one_node.specs.Machine.{MachineState, coded_machine};
 
     ghost Value = { MachineState };
 
     ghost coded = { coded_machine };
 
-    ghost view = { λ h. record { kernel = h.kernel; users = h.users.items; replies = h.replies } };
+    ghost view = { λ h. record { kernel = h.kernel; users = h.users.items; replies = h.replies.items } };
 
-    ghost invariant = { λ h. vec_len h.users ≡ length h.kernel.ends };
+    ghost invariant = { λ h. vec_len h.users ≡ given h.kernel };
 }
 
-fn did(reply: Option<i32>) -> Applied
-    ensures { result ≡ Applied.Did None reply }
+/// A step that gained a reply.
+fn did_reply(reply: &Reply3) -> Applied
+    ensures { result ≡ Applied.Did None (Some reply.now.value) }
 {
     Applied::Did {
         raised: None,
-        reply,
+        reply: Some(reply.value),
     }
 }
 
+/// A step that gained no reply.
+const DID: Applied = Applied::Did {
+    raised: None,
+    reply: None,
+};
+
 /// A step without a reply that was made or not.
-fn made(went: bool) -> Applied
+fn applied_if(went: bool) -> Applied
     ensures { result ≡ (if went then Applied.Did None None else Applied.Not) }
 {
-    if went { did(None) } else { Applied::Not }
+    if went { DID } else { Applied::Not }
 }
 
 impl Home {
@@ -92,7 +100,7 @@ impl Home {
         Home {
             kernel: Kernel::new(alloc),
             users: Vec::new(alloc),
-            replies: Replies::new(alloc),
+            replies: Vec::new(alloc),
         }
     }
 
@@ -122,46 +130,44 @@ impl Home {
         if k == 0 || !self.kernel.live(pid) {
             return Ok(false);
         }
-        match steps_at(&mut self.users, pid as usize - 1, k) {
-            Ok(went) => Ok(went),
-            Err(e) => Err(e),
-        }
+        let went = steps_at(&mut self.users, pid as usize - 1, k)?;
+        Ok(went)
     }
 
     /// At most a quantum of steps of a process, or what it asks. None exactly where it is not live.
     pub fn go(&mut self, alloc: Global, pid: u32, quantum: u32) -> Result<Option<Ran>, NoMemory>
         requires { 1 ≤ quantum }
-        ensures { IfOk result (λ ran. GoesOr ran quantum self.old pid self.new) }
+        ensures { IfOk result (λ ran. gone_in quantum self.old pid ≡ record { ran = ran; machine = self.new }) }
     {
         if !self.kernel.live(pid) {
             return Ok(None);
         }
-        match go_at(alloc, &mut self.users, pid as usize - 1, quantum) {
-            Ok(ran) => return Ok(Some(ran)),
-            Err(e) => return Err(e),
-        }
+        let ran = go_at(alloc, &mut self.users, pid as usize - 1, quantum)?;
+        Ok(Some(ran))
     }
 
-    /// Serves the forwarded call of a process. None exactly where it is at no call that is built.
+    /// Serves the forwarded call of a process. None exactly where it is at no call that is built: a process that is at no
+    /// call makes its next step then, where there is one.
     pub fn serve(&mut self, alloc: Global, pid: u32) -> Result<Option<Reply3>, NoMemory>
-        ensures went { IfOk result (λ r. Moves (is_some r) (done_of self.old pid (live_user self.old pid)) self.new) }
-        ensures reply { IfOk result (λ r. IfSome r (λ reply. (self.new.replies ≡ self.old.replies ++ reply ∷ []) × (reply.pid ≡ pid))) }
+        ensures { IfOk result (λ reply. replied_in self.old pid ≡ record { reply = reply; machine = self.new }) }
     {
         if !self.kernel.live(pid) {
             return Ok(None);
         }
+        self.replies.reserve(1)?;
         let i = pid as usize - 1;
-        let served = serve_at(alloc, &mut self.kernel, &mut self.users, i, pid)?;
-        let Some(reply) = served else {
-            return Ok(None);
-        };
-        self.replies.push(reply)?;
-        Ok(Some(reply))
+        match serve_at(alloc, &mut self.kernel, &mut self.users, i, pid)? {
+            Some(reply) => {
+                self.replies.push_reserved(reply);
+                Ok(Some(reply))
+            }
+            None => Ok(None),
+        }
     }
 
-    /// Ends a process by the fault that it is at. False exactly where it is at none.
+    /// Ends a process by the fault that it is at. False exactly where it is at none: it makes its next step then, where there is one.
     pub fn fall(&mut self, pid: u32) -> bool
-        ensures went { Moves result (fallen self.old pid (live_user self.old pid)) self.new }
+        ensures is { fell_in self.old pid ≡ record { fell = result; machine = self.new } }
         ensures replies { self.new.replies ≡ self.old.replies }
     {
         if !self.kernel.live(pid) {
@@ -181,15 +187,15 @@ impl Home {
         ensures { IfOk result (λ applied. AppliedAs applied (machine_step setup.now.users step.now self.old) self.old self.new) }
     {
         match step {
-            Step::Launch(i) => Ok(made(self.launch(setup.users.as_slice(), *i)?)),
-            Step::Steps { pid, k } => Ok(made(self.steps(*pid, *k)?)),
+            Step::Launch(i) => Ok(applied_if(self.launch(setup.users.as_slice(), *i)?)),
+            Step::Steps { pid, k } => Ok(applied_if(self.steps(*pid, *k)?)),
             Step::Do(pid) => match self.serve(alloc, *pid)? {
-                Some(reply) => Ok(did(Some(reply.value))),
+                Some(reply) => Ok(did_reply(&reply)),
                 None => Ok(Applied::Not),
             },
             Step::Break(_) => Ok(Applied::Not),
             Step::Take(_) => Ok(Applied::Not),
-            Step::Fall(pid) => Ok(made(self.fall(*pid))),
+            Step::Fall(pid) => Ok(applied_if(self.fall(*pid))),
         }
     }
 
@@ -227,7 +233,7 @@ impl Home {
         let terminal = Bytes::from_slice(alloc, self.kernel.terminal())?;
         let replies = self.replies.as_slice().to_vec(alloc)?;
         Ok(Outcome {
-            statuses: statuses(alloc, self.kernel.ends())?,
+            statuses: statuses(alloc, &self.kernel)?,
             terminal,
             files: self.kernel.named_files()?,
             replies: Replies::from_vec(replies),

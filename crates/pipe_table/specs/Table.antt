@@ -2,6 +2,7 @@
 use Rattle.std.specs.Prelude.{ℕ, zero, suc, ◌-◌, ◌≤◌, nat_lt, cond, List, [], ◌∷◌, ◌++◌, length, slice_get, Option, Some, None, is_some, is_none, IfSome}
 use Rattle.std.specs.List.{All, count_by, position_or_len}
 use Rattle.std.specs.Option.{option_map}
+use Rattle.call_table.specs.declared.limit.TheConstants.{PIPES, PIPE_BYTES}
 
 -- the pipe in a place, or past the last place
 abbrev pub pipe_in : Option (Option (List ℕ)) → Option (List ℕ)
@@ -21,7 +22,7 @@ bytes_at pipes id = bytes_of (pipe_at pipes id)
 
 abbrev pub room_of : Option (List ℕ) → ℕ
 room_of None = 0
-room_of (Some bytes) = 4096 - length bytes
+room_of (Some bytes) = PIPE_BYTES - length bytes
 
 -- how many bytes more a pipe can hold
 abbrev pub room_at : List (Option (List ℕ)) → ℕ → ℕ
@@ -32,7 +33,7 @@ pipe_count pipes = count_by is_some pipes
 
 -- the lowest id that no pipe has: None at 64 pipes
 abbrev pub free_id : List (Option (List ℕ)) → Option ℕ
-free_id pipes = cond (nat_lt (pipe_count pipes) 64) (Some (position_or_len is_none pipes)) None
+free_id pipes = cond (nat_lt (pipe_count pipes) PIPES) (Some (position_or_len is_none pipes)) None
 
 -- an empty pipe in the first place that has none
 abbrev pub with_pipe : List (Option (List ℕ)) → List (Option (List ℕ))
@@ -55,9 +56,9 @@ abbrev pub with_more : List ℕ → List ℕ → List ℕ
 with_more more bytes = bytes ++ more
 
 abbrev pub IsPipe : Option (List ℕ) → Type 0
-IsPipe pipe = IfSome pipe (λ bytes. length bytes ≤ 4096)
+IsPipe pipe = IfSome pipe (λ bytes. length bytes ≤ PIPE_BYTES)
 
 -- the limits of a system's pipes
 pub record IsWithinLimits (pipes : List (Option (List ℕ))) : Type 0 where
-  pub count : length pipes ≤ 64
+  pub count : length pipes ≤ PIPES
   pub bytes : All IsPipe pipes

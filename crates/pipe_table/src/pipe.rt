@@ -2,13 +2,11 @@
 ghost use Rattle.std.specs.Prelude.{◌≡◌, ◌-◌, ◌≤◌, ◌<◌, ◌^◌, min, [], ◌++◌, length, take, drop, IfOk, OnErr, vec_len};
 ghost use Rattle.circular_buffer.specs.Buffer.{buffer};
 
+use call_table::limit::PIPE_BYTES;
 use call_table::{Bytes, NoMemory};
 use circular_buffer::HeapCircularBuffer;
 use std::alloc::Global;
 use std::marker::Model;
-
-/// How many bytes a pipe holds at most.
-const ROOM: usize = 4096;
 
 /// A pipe, whose room for 4,096 bytes is taken with it. Contracts see the bytes that it holds, oldest first.
 #[derive(Drop)]
@@ -18,12 +16,13 @@ pub struct Pipe {
 
 impl Model for Pipe {
     ghost use Rattle.std.specs.Prelude.{List, ℕ, ◌≡◌, ◌≤◌, length};
+    ghost use Rattle.call_table.specs.declared.limit.TheConstants.{PIPE_BYTES};
 
     ghost Value = { List ℕ };
 
     ghost view = { λ p. p.ring.items };
 
-    ghost invariant = { λ p. (p.ring.capacity ≡ 4096) × (length p.ring.items ≤ 4096) };
+    ghost invariant = { λ p. (p.ring.capacity ≡ PIPE_BYTES) × (length p.ring.items ≤ PIPE_BYTES) };
 }
 
 impl Pipe {
@@ -32,23 +31,23 @@ impl Pipe {
         ensures { IfOk result (λ pipe. pipe ≡ []) }
     {
         Ok(Pipe {
-            ring: HeapCircularBuffer::with_capacity(alloc, ROOM)?,
+            ring: HeapCircularBuffer::with_capacity(alloc, PIPE_BYTES as usize)?,
         })
     }
 
     /// How many bytes it holds.
     pub fn held(&self) -> usize
         ensures held { result ≡ length self.now }
-        ensures within { result ≤ 4096 }
+        ensures within { result ≤ PIPE_BYTES }
     {
         self.ring.len()
     }
 
     /// Appends as many of the first bytes as fit, and answers how many. It takes no memory.
     pub fn put(&mut self, bytes: &[u8]) -> usize
-        ensures count { result ≡ min (length bytes.now) (4096 - length self.old) }
+        ensures count { result ≡ min (length bytes.now) (PIPE_BYTES - length self.old) }
         ensures bytes { self.new ≡ self.old ++ take result bytes.now }
-        ensures within { length self.new ≤ 4096 }
+        ensures within { length self.new ≤ PIPE_BYTES }
     {
         self.ring.fill_from_slice(bytes)
     }
@@ -58,7 +57,7 @@ impl Pipe {
         ensures bytes { IfOk result (λ bytes. bytes ≡ take len self.old) }
         ensures rest { IfOk result (λ bytes. self.new ≡ drop len self.old) }
         ensures err { OnErr result (self.new ≡ self.old) }
-        ensures within { length self.new ≤ 4096 }
+        ensures within { length self.new ≤ PIPE_BYTES }
     {
         let count = len.min(self.ring.len());
         let mut bytes = vec![in alloc; 0u8; count]?;

@@ -4,6 +4,7 @@ ghost use Rattle.pipe_table.specs.Table.{pipe_at, bytes_at, room_at, free_id, cr
 
 use crate::pipe::Pipe;
 use crate::slots::{add, free_id, held_at, put_at, room_at, take_at};
+use call_table::limit::PIPE_BYTES;
 use call_table::{Bytes, NoMemory};
 use std::alloc::Global;
 use std::marker::Model;
@@ -53,7 +54,7 @@ impl Pipes {
     /// How many bytes the pipe holds, at most 4,096.
     pub fn held(&self, id: u32) -> u32
         ensures held { result ≡ length (bytes_at self.now id) }
-        ensures within { result ≤ 4096 }
+        ensures within { result ≤ PIPE_BYTES }
     {
         held_at(&self.slots, id as usize) as u32
     }

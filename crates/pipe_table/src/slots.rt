@@ -5,11 +5,12 @@ ghost use Rattle.std.specs.Option.{option_map};
 ghost use Rattle.pipe_table.specs.Table.{bytes_of, bytes_at, room_of, room_at, free_id, with_pipe, with_more, changed_at, IsPipe, IsWithinLimits};
 
 use crate::pipe::Pipe;
+use call_table::limit::{PIPE_BYTES, PIPES};
 use call_table::{Bytes, NoMemory};
 use std::alloc::Global;
 
 /// How many pipes there are at most.
-const MOST: usize = 64;
+const MOST: usize = PIPES as usize;
 
 fn place_without(slots: &[Option<Pipe>]) -> Option<usize>
     ensures { result ≡ position is_none slots.now }
@@ -26,7 +27,7 @@ fn first_free(slots: &[Option<Pipe>]) -> usize
 
 /// The lowest id that no pipe has. None exactly at 64 pipes.
 pub fn free_id(slots: &[Option<Pipe>]) -> Option<u32>
-    requires { length slots.now ≤ 64 }
+    requires { length slots.now ≤ PIPES }
     ensures { result ≡ free_id slots.now }
 {
     let id = first_free(slots);
@@ -53,7 +54,7 @@ pub fn add(slots: &mut Vec<Option<Pipe>>, pipe: Pipe) -> Result<(), NoMemory>
 
 fn held_in(slot: &Option<Pipe>) -> usize
     ensures held { result ≡ length (bytes_of slot.now) }
-    ensures within { result ≤ 4096 }
+    ensures within { result ≤ PIPE_BYTES }
 {
     match slot {
         Some(pipe) => pipe.held(),
@@ -64,7 +65,7 @@ fn held_in(slot: &Option<Pipe>) -> usize
 /// How many bytes the pipe holds.
 pub fn held_at(slots: &[Option<Pipe>], id: usize) -> usize
     ensures held { result ≡ length (bytes_at slots.now id) }
-    ensures within { result ≤ 4096 }
+    ensures within { result ≤ PIPE_BYTES }
 {
     match slots.get(id) {
         Some(slot) => held_in(slot),
@@ -74,10 +75,10 @@ pub fn held_at(slots: &[Option<Pipe>], id: usize) -> usize
 
 fn room_in(slot: &Option<Pipe>) -> usize
     ensures room { result ≡ room_of slot.now }
-    ensures within { result ≤ 4096 }
+    ensures within { result ≤ PIPE_BYTES }
 {
     match slot {
-        Some(pipe) => 4096 - pipe.held(),
+        Some(pipe) => PIPE_BYTES as usize - pipe.held(),
         None => 0,
     }
 }
@@ -85,7 +86,7 @@ fn room_in(slot: &Option<Pipe>) -> usize
 /// How many bytes more the pipe can hold.
 pub fn room_at(slots: &[Option<Pipe>], id: usize) -> usize
     ensures room { result ≡ room_at slots.now id }
-    ensures within { result ≤ 4096 }
+    ensures within { result ≤ PIPE_BYTES }
 {
     match slots.get(id) {
         Some(slot) => room_in(slot),

@@ -2,6 +2,7 @@
 use Rattle.std.specs.Prelude.{ℕ, zero, suc, ◌+◌, ◌≤◌, Bool, false, ◌&&◌, nat_lt, nat_le, cond, List, [], ◌∷◌, ◌++◌, map, length, slice_get, slice_set, Option, Some, None}
 use Rattle.std.specs.List.{count_by, list_any, position_from}
 use Rattle.std.specs.Option.{option_map, option_map_or, option_and_then}
+use Rattle.call_table.specs.declared.limit.TheConstants.{PROCESSES, LAST_LAUNCHED, LAST_FORKED}
 use Rattle.call_table.specs.declared.process.End.{End}
 use Rattle.proc_tree.specs.declared.process.State.TheVariants.{Live}
 use Rattle.proc_tree.specs.declared.process.Process.{Process}
@@ -38,11 +39,11 @@ present_count tree = count_by is_present tree
 
 -- the last pid that a launch, which has no parent, or a fork can give
 abbrev pub last_pid : ℕ → ℕ
-last_pid zero = 32767
-last_pid (suc parent) = 32511
+last_pid zero = LAST_LAUNCHED
+last_pid (suc parent) = LAST_FORKED
 
 abbrev pub next_after : ℕ → ℕ → ℕ → Option ℕ
-next_after present next last = cond (nat_lt present 64 && nat_le next last) (Some next) None
+next_after present next last = cond (nat_lt present PROCESSES && nat_le next last) (Some next) None
 
 -- the pid of the next child: None at 64 live or zombies, or past the last pid
 abbrev pub next_pid_of : List Process → ℕ → Option ℕ
@@ -78,8 +79,8 @@ reaped tree child = changed_pid reaped_process tree child
 
 -- the limits of a system's processes
 pub record IsWithinLimits (tree : List Process) : Type 0 where
-  pub present : present_count tree ≤ 64
-  pub pids : length tree ≤ 32767
+  pub present : present_count tree ≤ PROCESSES
+  pub pids : length tree ≤ LAST_LAUNCHED
 
 -- the pids of those that are live or zombies, where the first of the list has this pid
 abbrev pub present_from : ℕ → List Process → List ℕ

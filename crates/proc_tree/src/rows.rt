@@ -7,15 +7,7 @@ ghost use Rattle.proc_tree.specs.Steps.{parted_each};
 
 use crate::process::{Process, State};
 use call_table::NoMemory;
-
-/// How many processes may be live or zombies.
-const MOST_PRESENT: usize = 64;
-
-/// The last pid that a fork gives.
-const LAST_FORKED: u32 = 32_511;
-
-/// The last pid that a launch gives.
-const LAST_LAUNCHED: u32 = 32_767;
+use call_table::limit::{LAST_FORKED, LAST_LAUNCHED, PROCESSES};
 
 pub fn at_pid(processes: &[Process], pid: u32) -> Option<Process>
     ensures { result ≡ at_pid processes.now pid }
@@ -162,7 +154,7 @@ pub fn last_pid(parent: u32) -> u32
 pub fn next_after(present: usize, next: u32, last: u32) -> Option<u32>
     ensures { result ≡ next_after present next last }
 {
-    if present >= MOST_PRESENT || next > last {
+    if present >= PROCESSES as usize || next > last {
         return None;
     }
     Some(next)

@@ -4,7 +4,7 @@ use Rattle.std.specs.Prelude.{nat_lt}
 use Rattle.node_event.specs.declared.script.Order.{Order}
 use Rattle.node_event.specs.declared.script.Order.TheVariants as order
 use Rattle.run_tokens.specs.Ops.{Ops, Sound, IsMove, is_child}
-use Rattle.run_tokens.specs.Deeds.{Input, Text, Finish, Nothing, Deed, Run, Kill, Bid, Unsent, Other, Steps, Sent, Heed, Held, Served, Got, Poked, Begin, Keep, Missed, Again, Allows, Denies, Depart, Stay, Land, Told, Refused, Closed, Strange, Noted, pid_of, order_at}
+use Rattle.run_tokens.specs.Deeds.{ForLine, Chosen, Input, Text, Finish, Nothing, Deed, Run, Kill, Bid, Unsent, Other, Steps, Sent, Heed, Held, Served, Got, Poked, Begin, Keep, Missed, Again, Allows, Denies, Depart, Stay, Land, Told, Refused, Closed, Gossips, Strange, Noted, pid_of, order_at}
 use Rattle.run_tokens.specs.Notes.{Believed, Turn}
 use Rattle.run_tokens.specs.Spots.{Spot, Nowhere}
 use Rattle.run_tokens.specs.Does.{Does}
@@ -109,7 +109,7 @@ module _ (O : Ops) (S : Sound O) where
             stands.unborn q (omega (arith, is))
     best_next (Got p child ended kept) named d again k = again b k
     best_next (Poked p used) named d again k = again b k
-    best_next (Begin p to line) named d again k = again b k
+    best_next (Begin p to reason) named d again k = again b k
     best_next (Keep p to line) named d again k = again b k
     best_next (Missed p to line) named d again k = again b k
     best_next (Again p to place line) named d again k = again b k
@@ -121,6 +121,7 @@ module _ (O : Ops) (S : Sound O) where
     best_next (Told p at source hops line poked) named d again k = told_best p at hops (q == p) named k again
     best_next (Refused p to why line) named d again k = again b k
     best_next (Closed line) named d again k = again b k
+    best_next (Gossips heard other) named d again k = again b k
     best_next (Strange p) named d again k = again b k
 
   believes_best : (h : List (Turn O)) (sp : ℕ → Spot O) (w : World O) → Path O S h sp w → (q : ℕ) (b : Believed) → Believes q (events O h) b → BestIs (best_told q (events O h)) (birth q (events O h)) b
@@ -168,7 +169,7 @@ module _ (O : Ops) (S : Sound O) where
     news_next (Served p2 manner number value child signal ends more poked) named d none k less again = again k less
     news_next (Got p2 child ended kept) named d none k less again = again k less
     news_next (Poked p2 used) named d none k less again = again k less
-    news_next (Begin p2 t2 l) named d none k less again = again k less
+    news_next (Begin p2 t2 reason) named d none k less again = again k less
     news_next (Keep p2 t2 l) named d none k less again = again k less
     news_next (Missed p2 t2 l) named d none k less again = again k less
     news_next (Again p2 t2 place l) named d none k less again = asked_now l p2 t2 (l == line) refl named k less (λ z. again z less)
@@ -180,6 +181,7 @@ module _ (O : Ops) (S : Sound O) where
     news_next (Told p2 at source hops l poked) named d none k less again = told_news (p == p2) (best_told p es2) at hops i _ less (λ z. again k z)
     news_next (Refused p2 t2 why l) named d none k less again = again k less
     news_next (Closed l) named d none k less again = again k less
+    news_next (Gossips heard other) named d none k less again = again k less
     news_next (Strange p2) named d none k less again = again k less
 
   news_after : (h : List (Turn O)) (sp : ℕ → Spot O) (w : World O) → Path O S h sp w → (p line to i : ℕ) → IsMove O line p to → outcomes line (events O h) ≡ 0 → Asked line (events O h) i → i < most_hops p (events O h) → has_news p line (events O h) ≡ true
@@ -203,7 +205,7 @@ module _ (O : Ops) (S : Sound O) where
     again_at (Served p manner number value child signal ends more poked) named d k = tt
     again_at (Got p child ended kept) named d k = tt
     again_at (Poked p used) named d k = tt
-    again_at (Begin p to line) named d k = tt
+    again_at (Begin p to reason) named d k = tt
     again_at (Keep p to line) named d k = tt
     again_at (Missed p to line) named d k = tt
     again_at (Again p to place line) named d k =
@@ -221,6 +223,7 @@ module _ (O : Ops) (S : Sound O) where
     again_at (Told p at source hops line poked) named d k = tt
     again_at (Refused p to why line) named d k = tt
     again_at (Closed line) named d k = tt
+    again_at (Gossips heard other) named d k = tt
     again_at (Strange p) named d k = tt
 
     line_at : (what : Deed) → Names O what → MoveLineAt O what
@@ -236,7 +239,8 @@ module _ (O : Ops) (S : Sound O) where
     line_at (Served p manner number value child signal ends more poked) named = tt
     line_at (Got p child ended kept) named = tt
     line_at (Poked p used) named = tt
-    line_at (Begin p to line) named = named
+    line_at (Begin p to (ForLine line)) named = named
+    line_at (Begin p to (Chosen heard other)) named = tt
     line_at (Keep p to line) named = named
     line_at (Missed p to line) named = named
     line_at (Again p to place line) named = named
@@ -248,6 +252,7 @@ module _ (O : Ops) (S : Sound O) where
     line_at (Told p at source hops line poked) named = tt
     line_at (Refused p to why line) named = named
     line_at (Closed line) named = tt
+    line_at (Gossips heard other) named = tt
     line_at (Strange p) named = tt
 
   pub again_next : (h : List (Turn O)) (w : World O) (t : Turn O) (v : World O) (sp next : ℕ → Spot O) → Path O S h sp w → Stands O S sp w → Step O S sp w t next v → (m : MachineState O) → Agrees O S h sp (w.nodes 0) m → Told_news t.event.what (events O h) → With (machine_at O (events O h)) (λ x. NewsAt O t.event.what (events O h) x)

@@ -1,7 +1,7 @@
 -- A node decides on a process that asks it, in every run.
 use Rattle.std.proofs.Common.{◌≡◌, ℕ, List, [], ◌∷◌, refl, ap, ◌∙◌}
 use Rattle.run_tokens.specs.Ops.{Ops, Sound}
-use Rattle.run_tokens.specs.Deeds.{Deed, Run, Kill, Bid, Unsent, Other, Steps, Sent, Heed, Held, Served, Got, Poked, Begin, Keep, Missed, Again, Allows, Denies, Depart, Stay, Land, Told, Refused, Closed, Strange, pid_of}
+use Rattle.run_tokens.specs.Deeds.{Deed, Run, Kill, Bid, Unsent, Other, Steps, Sent, Heed, Held, Served, Got, Poked, Begin, Keep, Missed, Again, Allows, Denies, Depart, Stay, Land, Told, Refused, Closed, Gossips, Strange, pid_of}
 use Rattle.run_tokens.specs.Notes.{Turn, Local}
 use Rattle.run_tokens.specs.Spots.{Spot, Asks}
 use Rattle.run_tokens.specs.Needs.{Needs}
@@ -34,7 +34,7 @@ module _ (O : Ops) (S : Sound O) where
   ask_law n old new s r (Served p manner number value child signal ends more poked) f e d = tt
   ask_law n old new s r (Got p child ended kept) f e d = tt
   ask_law n old new s r (Poked p used) f e d = tt
-  ask_law n old new s r (Begin p to line) f e d = tt
+  ask_law n old new s r (Begin p to reason) f e d = tt
   ask_law n old new s r (Keep p to line) f e d = tt
   ask_law n old new s r (Missed p to line) f e d = tt
   ask_law n old new s r (Again p to place line) f e d = tt
@@ -46,6 +46,7 @@ module _ (O : Ops) (S : Sound O) where
   ask_law n old new s r (Told p at source hops line poked) f e d = tt
   ask_law n old new s r (Refused p to why line) f e d = tt
   ask_law n old new s r (Closed line) f e d = tt
+  ask_law n old new s r (Gossips heard other) f e d = tt
   ask_law n old new s r (Strange p) f e d = tt
 
   pub path_asking : (h : List (Turn O)) (sp : ℕ → Spot O) (w : World O) → Path O S h sp w → AskLaw (events O h)

@@ -1,7 +1,7 @@
 -- What home believes of a process, and what it had been told when it last sent a line's Go, as relations on the events.
 use Rattle.std.proofs.Common.{◌≡◌, ℕ, ◌<◌, ◌≤◌, ◌==◌, ◌⊎◌, Bool, true, false, List, ◌∷◌, []}
 use Rattle.run_tokens.specs.Ops.{is_child}
-use Rattle.run_tokens.specs.Deeds.{Deed, Run, Kill, Bid, Unsent, Other, Steps, Sent, Heed, Held, Served, Got, Poked, Begin, Keep, Missed, Again, Allows, Denies, Depart, Stay, Land, Told, Refused, Closed, Strange, Noted}
+use Rattle.run_tokens.specs.Deeds.{Deed, Run, Kill, Bid, Unsent, Other, Steps, Sent, Heed, Held, Served, Got, Poked, Begin, Keep, Missed, Again, Allows, Denies, Depart, Stay, Land, Told, Refused, Closed, Gossips, Strange, Noted}
 use Rattle.run_tokens.specs.Notes.{Believed}
 use Rattle.run_laws.specs.Facts.{Node, facts}
 use Rattle.run_laws.specs.Outcomes.{outcomes}
@@ -29,7 +29,7 @@ BelievesBy (Held p k) q before Was b = Was b
 BelievesBy (Served p manner number value child signal ends more poked) q before Was b = Pick (is_child child q) ((m : ℕ) × ((facts p before).places ≡ Node m ∷ []) × (b ≡ record { place = m; hops = 0 })) (Was b)
 BelievesBy (Got p child ended kept) q before Was b = Was b
 BelievesBy (Poked p used) q before Was b = Was b
-BelievesBy (Begin p to line) q before Was b = Was b
+BelievesBy (Begin p to reason) q before Was b = Was b
 BelievesBy (Keep p to line) q before Was b = Was b
 BelievesBy (Missed p to line) q before Was b = Was b
 BelievesBy (Again p to place line) q before Was b = Was b
@@ -41,6 +41,7 @@ BelievesBy (Land p source) q before Was b = Was b
 BelievesBy (Told p at source hops line poked) q before Was b = Pick (q == p) ((was : Believed) × Was was × (((was.hops < hops) × (b ≡ record { place = at; hops = hops })) ⊎ ((hops ≤ was.hops) × (b ≡ was)))) (Was b)
 BelievesBy (Refused p to why line) q before Was b = Was b
 BelievesBy (Closed line) q before Was b = Was b
+BelievesBy (Gossips heard other) q before Was b = Was b
 BelievesBy (Strange p) q before Was b = Was b
 
 abbrev pub Believes : ℕ → List Noted → Believed → Type 0
@@ -61,7 +62,7 @@ AskedBy (Held p k) l before Was i = Was i
 AskedBy (Served p manner number value child signal ends more poked) l before Was i = Was i
 AskedBy (Got p child ended kept) l before Was i = Was i
 AskedBy (Poked p used) l before Was i = Was i
-AskedBy (Begin p to line) l before Was i = Was i
+AskedBy (Begin p to reason) l before Was i = Was i
 AskedBy (Keep p to line) l before Was i = Was i
 AskedBy (Missed p to line) l before Was i = Was i
 AskedBy (Again p to place line) l before Was i = Pick (line == l) ((b : Believed) × Believes p before b × (i ≡ b.hops)) (Was i)
@@ -73,6 +74,7 @@ AskedBy (Land p source) l before Was i = Was i
 AskedBy (Told p at source hops line poked) l before Was i = Was i
 AskedBy (Refused p to why line) l before Was i = Was i
 AskedBy (Closed line) l before Was i = Was i
+AskedBy (Gossips heard other) l before Was i = Was i
 AskedBy (Strange p) l before Was i = Was i
 
 abbrev pub Asked : ℕ → List Noted → ℕ → Type 0
@@ -102,7 +104,7 @@ NewsLaw (Held p k) before = Unit {0}
 NewsLaw (Served p manner number value child signal ends more poked) before = Unit {0}
 NewsLaw (Got p child ended kept) before = Unit {0}
 NewsLaw (Poked p used) before = Unit {0}
-NewsLaw (Begin p to line) before = Unit {0}
+NewsLaw (Begin p to reason) before = Unit {0}
 NewsLaw (Keep p to line) before = Unit {0}
 NewsLaw (Missed p to line) before = Unit {0}
 NewsLaw (Again p to place line) before = HasNews p place line before
@@ -114,6 +116,7 @@ NewsLaw (Land p source) before = Unit {0}
 NewsLaw (Told p at source hops line poked) before = Unit {0}
 NewsLaw (Refused p to why line) before = Unit {0}
 NewsLaw (Closed line) before = Unit {0}
+NewsLaw (Gossips heard other) before = Unit {0}
 NewsLaw (Strange p) before = Unit {0}
 
 abbrev pub NewsEver : List Noted → Type 0

@@ -2,7 +2,7 @@
 use Rattle.std.proofs.Common.{◌≡◌, ℕ, ◌+◌, ◌<◌, ◌≤◌, ◌==◌, ◌⊎◌, inl, inr, Bool, true, false, cond, Option, Some, None, List, [], ◌∷◌, refl, sym, ap, ◌∙◌, subst, arith}
 use Rattle.std.specs.Prelude.{nat_lt}
 use Rattle.std.proofs.lemmas.Bool.Decides.{nat_tests}
-use Rattle.run_tokens.specs.Deeds.{Deed, Run, Kill, Bid, Unsent, Other, Steps, Sent, Heed, Held, Served, Got, Poked, Begin, Keep, Missed, Again, Allows, Denies, Depart, Stay, Land, Told, Refused, Closed, Strange, Noted, pid_of}
+use Rattle.run_tokens.specs.Deeds.{Deed, Run, Kill, Bid, Unsent, Other, Steps, Sent, Heed, Held, Served, Got, Poked, Begin, Keep, Missed, Again, Allows, Denies, Depart, Stay, Land, Told, Refused, Closed, Gossips, Strange, Noted, pid_of}
 use Rattle.run_tokens.specs.Notes.{Believed}
 use Rattle.run_tokens.proofs.Talk.{same_numbers, numbers_same}
 use Rattle.run_laws.specs.Believed.{better, best_by, best_told, hops_of, place_or}
@@ -26,7 +26,7 @@ never_told q (e ∷ before) none = by (q == pid_of e.what) refl none (λ f. neve
     told_once (Served p manner number value child signal ends more poked) same none again = again none
     told_once (Got p child ended kept) same none again = again none
     told_once (Poked p used) same none again = again none
-    told_once (Begin p to line) same none again = again none
+    told_once (Begin p to reason) same none again = again none
     told_once (Keep p to line) same none again = again none
     told_once (Missed p to line) same none again = again none
     told_once (Again p to place line) same none again = again none
@@ -38,6 +38,7 @@ never_told q (e ∷ before) none = by (q == pid_of e.what) refl none (λ f. neve
     told_once (Told p at source hops line poked) same none again = absurd (let z : cond (hops == hops) (told_at q hops before + 1) (told_at q hops before) ≡ 0 = none hops in let y : told_at q hops before + 1 ≡ 0 = sym (ap (λ (b : Bool). cond b (told_at q hops before + 1) (told_at q hops before)) (same_numbers hops hops refl)) ∙ z in omega (arith, y))
     told_once (Refused p to why line) same none again = again none
     told_once (Closed line) same none again = again none
+    told_once (Gossips heard other) same none again = again none
     told_once (Strange p) same none again = again none
 
     not_told : (what : Deed) → (q == pid_of what) ≡ false → best_told q before ≡ None → best_by what q (best_told q before) ≡ None
@@ -53,7 +54,7 @@ never_told q (e ∷ before) none = by (q == pid_of e.what) refl none (λ f. neve
     not_told (Served p manner number value child signal ends more poked) off is = is
     not_told (Got p child ended kept) off is = is
     not_told (Poked p used) off is = is
-    not_told (Begin p to line) off is = is
+    not_told (Begin p to reason) off is = is
     not_told (Keep p to line) off is = is
     not_told (Missed p to line) off is = is
     not_told (Again p to place line) off is = is
@@ -65,6 +66,7 @@ never_told q (e ∷ before) none = by (q == pid_of e.what) refl none (λ f. neve
     not_told (Told p at source hops line poked) off is = ap (λ (b : Bool). cond b (better (record { place = at; hops = hops }) (best_told q before)) (best_told q before)) off ∙ is
     not_told (Refused p to why line) off is = is
     not_told (Closed line) off is = is
+    not_told (Gossips heard other) off is = is
     not_told (Strange p) off is = is
 
     by : (b : Bool) → (q == pid_of e.what) ≡ b → ((i : ℕ) → cond b (told_by_hops e.what i (told_at q i before)) (told_at q i before) ≡ 0) → (((i : ℕ) → told_at q i before ≡ 0) → best_told q before ≡ None) → best_by e.what q (best_told q before) ≡ None

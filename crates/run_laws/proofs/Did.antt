@@ -5,22 +5,18 @@ use Rattle.std.proofs.lemmas.Bool.Decides.{leb_tells}
 use lib.Dec.{leb}
 use Rattle.run_tokens.specs.Cluster.{events}
 use Rattle.run_tokens.specs.Notes.{Local}
-use Rattle.run_tokens.specs.Cluster.{World, Goes, for_link, at_front}
-use Rattle.run_laws.specs.Carried.{CarriedRun, posted_on, taken_on, own_events, Alone, Marked, Sorted, Did, Each, grown, recorded, shown}
+use Rattle.run_tokens.specs.Cluster.{World, Goes, Reached, for_link, at_front}
+use Rattle.run_laws.specs.Carried.{IsUsual, NoneStrange, Carried, CarriedRun, posted_on, taken_on, own_events, Alone, Marked, Sorted, Did, Each, grown, recorded, shown}
 use Rattle.run_laws.specs.Whole.{Holds}
 use Rattle.run_tokens.proofs.Talk.{same_numbers, numbers_same}
 use Rattle.run_laws.proofs.Weave.{marked, takes_elsewhere, posts_elsewhere, did_run}
 use Rattle.run_laws.proofs.Merge.{run_sorted, All_joined, join_all}
+use Rattle.run_laws.proofs.Awaiting.{lies}
 use Rattle.run_laws.proofs.Whole.{laws_of_runs}
 use Rattle.run_laws.specs.ScriptLaw.{AtHome, ScriptLaw}
 use Rattle.run_tokens.specs.Ops.{Ops, Sound}
-use Rattle.run_tokens.specs.Deeds.{Deed, Run, Kill, Bid, Unsent, Other, Steps, Sent, Heed, Held, Served, Got, Poked, Begin, Keep, Missed, Again, Allows, Denies, Depart, Stay, Land, Told, Refused, Closed, Strange, Noted}
+use Rattle.run_tokens.specs.Deeds.{Deed, Run, Kill, Bid, Unsent, Other, Steps, Sent, Heed, Held, Served, Got, Poked, Begin, Keep, Missed, Again, Allows, Denies, Depart, Stay, Land, Told, Refused, Closed, Gossips, Strange, Noted}
 use Rattle.run_tokens.specs.Notes.{Post, Turn}
-
--- no letter is strange
-abbrev pub IsUsual : Deed → Type 0
-IsUsual (Strange p) = ⊥
-IsUsual _ = Unit {0}
 
 usual_from : (what : Deed) (n : ℕ) → AtHome what n → IsUsual what
 usual_from (Run line i p) n l = tt
@@ -35,7 +31,7 @@ usual_from (Held p k) n l = tt
 usual_from (Served p manner number value child signal ends more poked) n l = tt
 usual_from (Got p child ended kept) n l = tt
 usual_from (Poked p used) n l = tt
-usual_from (Begin p to line) n l = tt
+usual_from (Begin p to reason) n l = tt
 usual_from (Keep p to line) n l = tt
 usual_from (Missed p to line) n l = tt
 usual_from (Again p to place line) n l = tt
@@ -47,6 +43,7 @@ usual_from (Land p source) n l = tt
 usual_from (Told p at source hops line poked) n l = tt
 usual_from (Refused p to why line) n l = tt
 usual_from (Closed line) n l = tt
+usual_from (Gossips heard other) n l = tt
 usual_from (Strange p) n l = l
 
 usual : (O : Ops) (es : List Noted) → ScriptLaw O es → Each (λ e. IsUsual e.what) es
@@ -74,7 +71,7 @@ line_usual e (Held p k) u = refl
 line_usual e (Served p manner number value child signal ends more poked) u = refl
 line_usual e (Got p child ended kept) u = refl
 line_usual e (Poked p used) u = refl
-line_usual e (Begin p to line) u = refl
+line_usual e (Begin p to reason) u = refl
 line_usual e (Keep p to line) u = refl
 line_usual e (Missed p to line) u = refl
 line_usual e (Again p to place line) u = refl
@@ -86,6 +83,7 @@ line_usual e (Land p source) u = refl
 line_usual e (Told p at source hops line poked) u = refl
 line_usual e (Refused p to why line) u = refl
 line_usual e (Closed line) u = refl
+line_usual e (Gossips heard other) u = refl
 line_usual e (Strange p) u = absurd u
 
 module _ (O : Ops) where
@@ -133,6 +131,30 @@ module _ (O : Ops) where
       go (inl x) = ap (events O) (few n x.1) ∙ sym (all.others n x.1)
       go (inr x) = sym (all.own n x.1)
 
+  -- what a run took from its links was posted before
+  carried_reached : (h : List (Turn O)) (w : World O) → Reached O h w → Carried O h
+  carried_reached [] w r = tt
+  carried_reached (t ∷ h) v r = (
+    λ a b. (r.2.rest a b, append_assoc (taken_on O a b h) (at_front O t.taken a b) (r.2.rest a b) ∙ (ap (λ (x : List (Post O)). taken_on O a b h ++ x) (sym (r.2.takes a b)) ∙ lies O h r.0 r.1 a b)),
+    carried_reached h r.0 r.1,
+  )
+
+  marked_reached : (h : List (Turn O)) (w : World O) → Reached O h w → Each (λ t. Marked O t) h
+  marked_reached [] w r = tt
+  marked_reached (t ∷ h) v r = (marked O t.event.node (r.0.nodes t.event.node) t (v.nodes t.event.node) r.2.makes, marked_reached h r.0 r.1)
+
+  none_strange : (h : List (Turn O)) → Each (λ e. IsUsual e.what) (events O h) → NoneStrange O h
+  none_strange [] u = tt
+  none_strange (t ∷ h) u = (u.0, none_strange h u.1)
+
+  -- of every run all laws hold, its letters are carried, and none is strange
+  pub runs_hold : (S : Sound O) (h : List (Turn O)) (w : World O) → Reached O h w → Holds O (events O h) w × CarriedRun O (events O h) w × NoneStrange O h
+  runs_hold S h w r = let holds = laws_of_runs O S h w r in (
+    holds,
+    record { turns = h; events_are = refl; reached = r; carried = carried_reached h w r; marked = marked_reached h w r },
+    none_strange h (usual O (events O h) holds.lawful.script),
+  )
+
   -- a node that the cluster does not have does nothing
   beyond : (S : Sound O) (turns : ℕ → List (Turn O)) (w : World O) → Did O turns w → (n : ℕ) → O.nodes ≤ n → turns n ≡ []
   beyond S turns w did n least = go (turns n) (did.nodes n)
@@ -142,7 +164,7 @@ module _ (O : Ops) where
       go (t ∷ ts) r = absurd (omega (arith, least, r.2.below))
 
   -- the nodes did this by themselves, and their journals are woven by stamps: no letter was strange, all the laws hold, and the links carried the letters
-  pub did_holds : (S : Sound O) (turns : ℕ → List (Turn O)) (w : World O) (es : List Noted) → Did O turns w → Sorted es → ((n : ℕ) → own_events n es ≡ shown O (turns n)) → Holds O es w × CarriedRun O es w
+  pub did_holds : (S : Sound O) (turns : ℕ → List (Turn O)) (w : World O) (es : List Noted) → Did O turns w → Sorted es → ((n : ℕ) → own_events n es ≡ shown O (turns n)) → Holds O es w × CarriedRun O es w × ((n : ℕ) → NoneStrange O (turns n))
   did_holds S turns w es did sorted own =
       let N : ℕ = O.nodes in
       let few : (n : ℕ) → N ≤ n → turns n ≡ [] = beyond S turns w did in
@@ -154,4 +176,4 @@ module _ (O : Ops) where
       let usual_all : Each (λ e. IsUsual e.what) all.list = subst (λ (k : List Noted). Each (λ e. IsUsual e.what) k) run.events_are (usual O (events O run.turns) holds.lawful.script) in
       let shown_is : (n : ℕ) → shown O (turns n) ≡ events O (turns n) = λ n. shown_usual (turns n) (subst (λ (k : List Noted). Each (λ e. IsUsual e.what) k) (sym (own_all n)) (usual_own n all.list usual_all)) in
       let run2 = did_run O turns w es did sorted (λ n. sym (own n ∙ shown_is n)) in
-      (subst (λ (k : List Noted). Holds O k w) run2.events_are (laws_of_runs O S run2.turns w run2.reached), run2)
+      (subst (λ (k : List Noted). Holds O k w) run2.events_are (laws_of_runs O S run2.turns w run2.reached), run2, λ n. none_strange (turns n) (subst (λ (k : List Noted). Each (λ e. IsUsual e.what) k) (sym (own_all n)) (usual_own n all.list usual_all)))

@@ -1,7 +1,7 @@
 -- The errand of a move line: where it is between its command and its outcome.
 use Rattle.std.proofs.Common.{ℕ, ◌==◌, Bool, false, Option, Some, None}
 use Rattle.run_tokens.specs.Ops.{Ops, is_child}
-use Rattle.run_tokens.specs.Notes.{Note, Call, Pause, Reply, Poke, Go, NotHere, Ask, Allow, Deny, Move, Landed, NoMove, Way, way}
+use Rattle.run_tokens.specs.Notes.{Note, Call, Pause, Reply, Poke, Half, Go, NotHere, Ask, Allow, Deny, Move, Landed, NoMove, Way, way}
 
 -- The errand of a move line: where it is between its command and its outcome.
 pub data Errand : Type 0 where
@@ -39,6 +39,7 @@ module _ (O : Ops) where
   of_line l (Pause p r) = false
   of_line l (Reply p d) = false
   of_line l (Poke p) = false
+  of_line l (Half places) = false
   of_line l (Go p to hops line) = line == l
   of_line l (NotHere p to hops line) = line == l
   of_line l (Ask p need) = false

@@ -1,7 +1,7 @@
 -- What the events tell of each process is what its spot tells.
 use Rattle.std.proofs.Common.{◌≡◌, ℕ, ◌+◌, Bool, true, false, cond, Option, Some, None, List, [], ◌∷◌, refl, sym, ap, ◌∙◌, arith, ◌||◌}
 use Rattle.run_tokens.specs.Ops.{Ops, Sound, is_child}
-use Rattle.run_tokens.specs.Deeds.{Manner, Did, Broke, Fell, Paused, Deed, Run, Kill, Bid, Unsent, Other, Steps, Sent, Heed, Held, Served, Got, Poked, Begin, Keep, Missed, Again, Allows, Denies, Depart, Stay, Land, Told, Refused, Closed, Strange, pid_of, child_of}
+use Rattle.run_tokens.specs.Deeds.{Manner, Did, Broke, Fell, Paused, Deed, Run, Kill, Bid, Unsent, Other, Steps, Sent, Heed, Held, Served, Got, Poked, Begin, Keep, Missed, Again, Allows, Denies, Depart, Stay, Land, Told, Refused, Closed, Gossips, Strange, pid_of, child_of}
 use Rattle.run_tokens.specs.Notes.{Done, Turn, Body, Kept, Local, is_some}
 use Rattle.run_tokens.specs.Spots.{Spot, Nowhere, Runs, Calls, Holds, Pauses, Answered, Asks, Granted, Denied, Travels, InReply, Ended}
 use Rattle.run_tokens.specs.Home.{last, returned, after, done_of}
@@ -131,7 +131,7 @@ module _ (O : Ops) (S : Sound O) where
     own_facts (Got p child ended kept) d = (λ i. fact_own (Got p child (d.is.ended_is i) (d.is.kept_is i)) n (facts_of s)) ∙ by (Got p child d.is.done.ended (kept_told O d.is.keeps d.is.done.ended)) _ _ d.is.was d.is.now (got_facts n p child d.is.body d.is.keeps d.is.done d.is.paused d.is.held)
     own_facts (Poked p true) d = mark_facts n p s d.is.awake ∙ sym (ap facts_of d.is.now)
     own_facts (Poked p false) d = by (Poked p false) _ _ refl d.is.now refl
-    own_facts (Begin p to line) d = by (Begin p to line) _ _ d.is.was d.is.now refl
+    own_facts (Begin p to reason) d = by (Begin p to reason) _ _ d.is.was d.is.now refl
     own_facts (Keep p to line) d = keep_facts n p to line s d.is.free ∙ sym (ap facts_of d.is.now)
     own_facts (Missed p to line) d = by (Missed p to line) _ _ refl d.is.now refl
     own_facts (Again p to place line) d = by (Again p to place line) _ _ refl d.is.now refl
@@ -143,6 +143,7 @@ module _ (O : Ops) (S : Sound O) where
     own_facts (Told p at source hops line poked) d = by (Told p at source hops line poked) _ _ refl d.is.now refl
     own_facts (Refused p to why line) d = by (Refused p to why line) _ _ refl d.is.now refl
     own_facts (Closed line) d = by (Closed line) _ _ refl d.is.now refl
+    own_facts (Gossips heard other) d = by (Gossips heard other) _ _ refl d.is.now refl
     own_facts (Strange p) d = absurd d
 
   -- the child's facts: it was nowhere, or in the reply
@@ -168,7 +169,7 @@ module _ (O : Ops) (S : Sound O) where
         let g = got_brings O n (w.nodes n) (v.nodes n) (sp p) r p child ended kept need.is in
         ap (λ (k : Spot O). fact_child (Got p child ended kept) n (facts_of k)) (stands.coupled.child p c (g.0 ∙ e)).0
     child_facts (Poked p used) r need c e = absurd cc
-    child_facts (Begin p to line) r need c e = absurd cc
+    child_facts (Begin p to reason) r need c e = absurd cc
     child_facts (Keep p to line) r need c e = absurd cc
     child_facts (Missed p to line) r need c e = absurd cc
     child_facts (Again p to place line) r need c e = absurd cc
@@ -180,6 +181,7 @@ module _ (O : Ops) (S : Sound O) where
     child_facts (Told p at source hops line poked) r need c e = absurd cc
     child_facts (Refused p to why line) r need c e = absurd cc
     child_facts (Closed line) r need c e = absurd cc
+    child_facts (Gossips heard other) r need c e = absurd cc
     child_facts (Strange p) r need c e = absurd cc
 
     tells_next : (h : List (Turn O)) → ((q : ℕ) → facts q (events O h) ≡ facts_of (sp q)) → (q : ℕ) → Part O t.event.what n sp st.own q → facts q (t.event ∷ events O h) ≡ facts_of (next q)

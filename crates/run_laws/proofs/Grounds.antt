@@ -1,7 +1,7 @@
 -- Each refusal of a move that is under way has such a move, and each decision is on the machine's pages.
 use Rattle.std.proofs.Common.{◌≡◌, ℕ, zero, suc, ◌+◌, ◌<◌, ◌≤◌, ◌⊎◌, inl, inr, Bool, true, false, not, Option, Some, None, List, [], ◌∷◌, refl, sym, ap, ◌∙◌, subst, arith}
 use Rattle.run_tokens.specs.Ops.{Ops, Sound}
-use Rattle.run_tokens.specs.Deeds.{Gone, Moving, There, Deed, Run, Kill, Bid, Unsent, Other, Steps, Sent, Heed, Held, Served, Got, Poked, Begin, Keep, Missed, Again, Allows, Denies, Depart, Stay, Land, Told, Refused, Closed, Strange, Noted, pid_of}
+use Rattle.run_tokens.specs.Deeds.{Gone, Moving, There, Deed, Run, Kill, Bid, Unsent, Other, Steps, Sent, Heed, Held, Served, Got, Poked, Begin, Keep, Missed, Again, Allows, Denies, Depart, Stay, Land, Told, Refused, Closed, Gossips, Strange, Noted, pid_of}
 use Rattle.run_tokens.specs.Notes.{Turn, Body, Kept, Running, Waiting, Asking, context}
 use Rattle.run_tokens.specs.Spots.{Spot, Nowhere, Runs, Calls, Holds, Pauses, Answered, Asks, Granted, Denied, Travels, InReply, Ended}
 use Rattle.run_tokens.specs.Cluster.{World}
@@ -26,7 +26,8 @@ use Rattle.run_laws.proofs.Played.{Agrees}
 use Rattle.run_tokens.proofs.Process.{StateTells, context_tells}
 use Rattle.run_tokens.proofs.Stand.{Stands, Step, Path}
 use Rattle.run_laws.proofs.Facts.{facts_of, kept_to, path_tells}
-use Rattle.run_laws.proofs.Replay.{user_of, Right, alive}
+use Rattle.run_laws.proofs.Replay.{user_of}
+use Rattle.run_tokens.specs.Needs.{alive, Right}
 use Rattle.run_laws.proofs.Played.{path_played}
 use Rattle.run_laws.proofs.Moves.{Balanced, asks_of, path_balanced}
 use Rattle.run_laws.proofs.Hops.{over, AtPlace, Ok}
@@ -53,7 +54,7 @@ module _ (O : Ops) (S : Sound O) where
   place_one sp (InReply q u) i j e f = sym e ∙ f
   place_one sp (Ended u) i j e f = absurd e
 
-  over_dead : (s : Spot O) → over O S s ≡ true → alive O S s ≡ false
+  over_dead : (s : Spot O) → over O S s ≡ true → alive O s ≡ false
   over_dead Nowhere e = absurd cc
   over_dead (Runs m b) e = absurd cc
   over_dead (Calls m b k r) e = absurd cc
@@ -67,17 +68,17 @@ module _ (O : Ops) (S : Sound O) where
   over_dead (InReply q u) e = absurd cc
   over_dead (Ended u) e = refl
 
-  waiting_kept : (k : Option Kept) (b : Body O) (n : ℕ) (s : Spot O) → StateTells O (Waiting k) b n s → (facts_of O S s).kept ≡ kept_to k
-  waiting_kept k b n s (inl (x, e)) = ap (λ (z : Spot O). (facts_of O S z).kept) e
-  waiting_kept k b n s (inr (inl (x, e))) = ap (λ (z : Spot O). (facts_of O S z).kept) e
-  waiting_kept k b n s (inr (inr (inl (x, e)))) = ap (λ (z : Spot O). (facts_of O S z).kept) e
-  waiting_kept k b n s (inr (inr (inr (d, x, y, e)))) = ap (λ (z : Spot O). (facts_of O S z).kept) e
+  waiting_kept : (x : Bool) (k : Option Kept) (b : Body O) (n : ℕ) (s : Spot O) → StateTells O (Waiting x k) b n s → (facts_of O S s).kept ≡ kept_to k
+  waiting_kept x k b n s (inl (q, e, z)) = ap (λ (z : Spot O). (facts_of O S z).kept) e
+  waiting_kept x k b n s (inr (inl (q, e, z))) = ap (λ (z : Spot O). (facts_of O S z).kept) e
+  waiting_kept x k b n s (inr (inr (inl (q, e, z)))) = ap (λ (z : Spot O). (facts_of O S z).kept) e
+  waiting_kept x k b n s (inr (inr (inr (d, y, e)))) = ap (λ (z : Spot O). (facts_of O S z).kept) e
 
-  waiting_place : (k : Option Kept) (b : Body O) (n : ℕ) (s : Spot O) → StateTells O (Waiting k) b n s → (facts_of O S s).places ≡ Node n ∷ []
-  waiting_place k b n s (inl (x, e)) = ap (λ (z : Spot O). (facts_of O S z).places) e
-  waiting_place k b n s (inr (inl (x, e))) = ap (λ (z : Spot O). (facts_of O S z).places) e
-  waiting_place k b n s (inr (inr (inl (x, e)))) = ap (λ (z : Spot O). (facts_of O S z).places) e
-  waiting_place k b n s (inr (inr (inr (d, x, y, e)))) = ap (λ (z : Spot O). (facts_of O S z).places) e
+  waiting_place : (x : Bool) (k : Option Kept) (b : Body O) (n : ℕ) (s : Spot O) → StateTells O (Waiting x k) b n s → (facts_of O S s).places ≡ Node n ∷ []
+  waiting_place x k b n s (inl (q, e, z)) = ap (λ (z : Spot O). (facts_of O S z).places) e
+  waiting_place x k b n s (inr (inl (q, e, z))) = ap (λ (z : Spot O). (facts_of O S z).places) e
+  waiting_place x k b n s (inr (inr (inl (q, e, z)))) = ap (λ (z : Spot O). (facts_of O S z).places) e
+  waiting_place x k b n s (inr (inr (inr (d, y, e)))) = ap (λ (z : Spot O). (facts_of O S z).places) e
 
   asking_one : (to : ℕ) (l : Option ℕ) (b : Body O) (n : ℕ) (s : Spot O) → StateTells O (Asking to l) b n s → (asks_of O S s ≡ 1) × (over O S s ≡ false) × (s ≡ Nowhere → ⊥)
   asking_one to l b n s (inl (x, e)) = (ap (asks_of O S) e, ap (over O S) e, λ z. (let y = sym e ∙ z in cc))
@@ -92,12 +93,12 @@ module _ (O : Ops) (S : Sound O) where
     bal q = path_balanced O S h sp w path q
 
     refused : (p to line : ℕ) → t.event.what ≡ Refused p to Moving line → Does O (Refused p to Moving line) t.event.node (w.nodes t.event.node) t (v.nodes t.event.node) → UnderWay p es
-    refused p to line is (inl d) = go d.was.4
+    refused p to line is (inl d) = go d.was
       where
-        go : (((w.nodes t.event.node).slots p).context ≡ Some (context O d.was.0 (Asking d.was.1 d.was.2))) ⊎ (((w.nodes t.event.node).slots p).context ≡ Some (context O d.was.0 (Waiting (Some d.was.3)))) → UnderWay p es
-        go (inr e) = inl (d.was.3.to, ap (λ (k : Facts). k.kept) (path_tells O S h sp w path p) ∙ waiting_kept (Some d.was.3) d.was.0 t.event.node (sp p) (context_tells O p (sp p) w (stands.at p) t.event.node d.was.0 (Waiting (Some d.was.3)) e))
-        go (inl e) =
-            let a = asking_one d.was.1 d.was.2 d.was.0 t.event.node (sp p) (context_tells O p (sp p) w (stands.at p) t.event.node d.was.0 (Asking d.was.1 d.was.2) e) in
+        go : ((b : Body O) × (to2 : ℕ) × (line2 : Option ℕ) × (((w.nodes t.event.node).slots p).context ≡ Some (context O b (Asking to2 line2)))) ⊎ ((b : Body O) × (x : Bool) × (k : Kept) × (((w.nodes t.event.node).slots p).context ≡ Some (context O b (Waiting x (Some k))))) → UnderWay p es
+        go (inr (b, x, k, e)) = inl (k.to, ap (λ (z : Facts). z.kept) (path_tells O S h sp w path p) ∙ waiting_kept x (Some k) b t.event.node (sp p) (context_tells O p (sp p) w (stands.at p) t.event.node b (Waiting x (Some k)) e))
+        go (inl (b, to2, line2, e)) =
+            let a = asking_one to2 line2 b t.event.node (sp p) (context_tells O p (sp p) w (stands.at p) t.event.node b (Asking to2 line2) e) in
             inr (by a.0 (belief a.1 ((path_trails O S h sp w path).belief p a.2)))
           where
             belief : over O S (sp p) ≡ false → Ok O S sp (sp p) (moves p es) ((w.nodes 0).believed p).place ((w.nodes 0).believed p).hops → ((w.nodes 0).believed p).hops ≤ (moves p es).departs
@@ -157,22 +158,22 @@ module _ (O : Ops) (S : Sound O) where
       ended_at p some dead = record { given = given p some; dead = dead }
 
       got_ended : (ended : Bool) (p : ℕ) (child : Option ℕ) (kept : Option KeptTold) → GotReply O n p child ended kept (sp p) st.own → EndedWhere O ended p m
-      got_ended true p child kept d = ended_at p (λ z. (let y = sym d.was ∙ z in cc)) (agrees.alive p ∙ (ap (alive O S) d.was ∙ ap not (sym d.ended_is)))
-      got_ended false p child kept d = agrees.alive p ∙ (ap (alive O S) d.was ∙ ap not (sym d.ended_is))
+      got_ended true p child kept d = ended_at p (λ z. (let y = sym d.was ∙ z in cc)) (agrees.alive p ∙ (ap (alive O) d.was ∙ ap not (sym d.ended_is)))
+      got_ended false p child kept d = agrees.alive p ∙ (ap (alive O) d.was ∙ ap not (sym d.ended_is))
 
-      needed : (p need : ℕ) (s : Spot O) → sp p ≡ s → (b : Body O) → user_of O S s ≡ Some b.user → (Right O S s → need ≡ O.pages b.user) → need ≡ pages_of O (m.users p)
-      needed p need s e b f g = g (subst (Right O S) e (agrees.right p)) ∙ sym (ap (pages_of O) (agrees.users p ∙ (ap (user_of O S) e ∙ f)))
+      needed : (p need : ℕ) (s : Spot O) → sp p ≡ s → (b : Body O) → user_of O S s ≡ Some b.user → (Right O s → need ≡ O.pages b.user) → need ≡ pages_of O (m.users p)
+      needed p need s e b f g = g (subst (Right O) e (agrees.right p)) ∙ sym (ap (pages_of O) (agrees.users p ∙ (ap (user_of O S) e ∙ f)))
 
       unused : (used : ℕ) → InUse O (w.nodes n) used → used ≡ used_pages O n es m
       unused used d = path_used O S h sp w path stands m agrees n used d
 
       -- a Go that comes to its target, where its process is
       there : (p to line : ℕ) → Does O (Refused p to There line) n (w.nodes n) t (v.nodes n) → (n ≡ to) × ((facts p es).places ≡ Node n ∷ [])
-      there p to line (inl d) = (sym d.was.2, ap (λ (k : Facts). k.places) (path_tells O S h sp w path p) ∙ go d.was.1)
+      there p to line (inl d) = (sym d.was.1, ap (λ (k : Facts). k.places) (path_tells O S h sp w path p) ∙ go d.was.0)
         where
-          go : (((w.nodes n).slots p).context ≡ Some (context O d.was.0 Running)) ⊎ (((w.nodes n).slots p).context ≡ Some (context O d.was.0 (Waiting None))) → (facts_of O S (sp p)).places ≡ Node n ∷ []
-          go (inl e) = ap (λ (k : Spot O). (facts_of O S k).places) (context_tells O p (sp p) w (stands.at p) n d.was.0 Running e)
-          go (inr e) = waiting_place None d.was.0 n (sp p) (context_tells O p (sp p) w (stands.at p) n d.was.0 (Waiting None) e)
+          go : ((b : Body O) × (((w.nodes n).slots p).context ≡ Some (context O b Running))) ⊎ ((b : Body O) × (x : Bool) × (((w.nodes n).slots p).context ≡ Some (context O b (Waiting x None)))) → (facts_of O S (sp p)).places ≡ Node n ∷ []
+          go (inl (b, e)) = ap (λ (k : Spot O). (facts_of O S k).places) (context_tells O p (sp p) w (stands.at p) n b Running e)
+          go (inr (b, x, e)) = waiting_place x None b n (sp p) (context_tells O p (sp p) w (stands.at p) n b (Waiting x None) e)
       there p to line (inr d) = absurd d.was
 
       nowhere_not : (p i : ℕ) → sp p ≡ Nowhere → Ok O S sp (sp p) (moves p es) 0 i → ⊥
@@ -199,7 +200,7 @@ module _ (O : Ops) (S : Sound O) where
       grounded_at : (what : Deed) → t.event.what ≡ what → Does O what n (w.nodes n) t (v.nodes n) → Needs O what n (w.nodes n) (v.nodes n) (sp (pid_of what)) st.own → GroundedAt O what n es m
       grounded_at (Run line i p) is d need = tt
       grounded_at (Kill line p g poked) is d need = tt
-      grounded_at (Bid line p to) is d need = tt
+      grounded_at (Bid line p to) is d need = ap (λ (k : O.Kernel). O.live k p) (sym (kernel_at need.is.why.0)) ∙ need.is.why.1
       grounded_at (Unsent line p never) is d need = subst (λ (k : O.Kernel). UnsentFor O never k p) (kernel_at need.is.why.0) need.is.why.1
       grounded_at (Other line input) is d need = tt
       grounded_at (Steps p k) is d need = tt
@@ -209,7 +210,7 @@ module _ (O : Ops) (S : Sound O) where
       grounded_at (Served p manner number value child signal ends more poked) is d need = tt
       grounded_at (Got p child ended kept) is d need = got_ended ended p child kept need.is
       grounded_at (Poked p used) is d need = tt
-      grounded_at (Begin p to line) is d need = tt
+      grounded_at (Begin p to reason) is d need = tt
       grounded_at (Keep p to line) is d need = tt
       grounded_at (Missed p to line) is d need = tt
       grounded_at (Again p to place line) is d need = tt
@@ -223,6 +224,7 @@ module _ (O : Ops) (S : Sound O) where
       grounded_at (Refused p to Moving line) is d need = refused p to line is d
       grounded_at (Refused p to There line) is d need = there p to line d
       grounded_at (Closed line) is d need = closed line d
+      grounded_at (Gossips heard other) is d need = tt
       grounded_at (Strange p) is d need = tt
 
     grounded_next : With (machine_at O es) (λ m. GroundedAt O t.event.what t.event.node es m)

@@ -1,7 +1,7 @@
 -- Where a process was at a number of landings: each Go, each Landed and home's belief name a place that the process had, and has left or still has.
 use Rattle.std.proofs.Common.{◌≡◌, ◌≢◌, ℕ, ◌+◌, ◌<◌, ◌⊎◌, inl, inr, Bool, true, false, cond, Option, Some, None, List, ◌∷◌, refl, sym, ap, ◌∙◌, subst, arith}
 use Rattle.run_tokens.specs.Ops.{Ops, Sound, is_child, counted}
-use Rattle.run_tokens.specs.Deeds.{Manner, Did, Broke, Fell, Paused, Deed, Run, Kill, Bid, Unsent, Other, Steps, Sent, Heed, Held, Served, Got, Poked, Begin, Keep, Missed, Again, Allows, Denies, Depart, Stay, Land, Told, Refused, Closed, Strange, pid_of, child_of}
+use Rattle.run_tokens.specs.Deeds.{Manner, Did, Broke, Fell, Paused, Deed, Run, Kill, Bid, Unsent, Other, Steps, Sent, Heed, Held, Served, Got, Poked, Begin, Keep, Missed, Again, Allows, Denies, Depart, Stay, Land, Told, Refused, Closed, Gossips, Strange, pid_of, child_of}
 use Rattle.run_tokens.specs.Notes.{Done, Turn, Body, Kept, Local}
 use Rattle.run_tokens.specs.Spots.{Spot, Nowhere, Runs, Calls, Holds, Pauses, Answered, Asks, Granted, Denied, Travels, InReply, Ended, site}
 use Rattle.run_tokens.specs.Home.{returned, after}
@@ -151,7 +151,7 @@ module _ (O : Ops) (S : Sound O) where
     bring_on (Got p child ended kept) c d h = inr (sym (got_brings O n old new s r p child ended kept d.is).0 ∙ h)
     bring_on (Poked p true) c d h = inl (ap (brings O) d.is.now ∙ ((mark_site s).1 ∙ h), ap (site O) d.is.now ∙ (mark_site s).0)
     bring_on (Poked p false) c d h = stays (Poked p false) c d.is.now h
-    bring_on (Begin p to line) c d h = none (Begin p to line) c _ d.is.was refl h
+    bring_on (Begin p to reason) c d h = none (Begin p to reason) c _ d.is.was refl h
     bring_on (Keep p to line) c d h = inl (ap (brings O) d.is.now ∙ ((keep_site (record { to = to; line = line }) s).1 ∙ h), ap (site O) d.is.now ∙ (keep_site (record { to = to; line = line }) s).0)
     bring_on (Missed p to line) c d h = stays (Missed p to line) c d.is.now h
     bring_on (Again p to place line) c d h = stays (Again p to place line) c d.is.now h
@@ -163,6 +163,7 @@ module _ (O : Ops) (S : Sound O) where
     bring_on (Told p at source hops line poked) c d h = stays (Told p at source hops line poked) c d.is.now h
     bring_on (Refused p to why line) c d h = stays (Refused p to why line) c d.is.now h
     bring_on (Closed line) c d h = stays (Closed line) c d.is.now h
+    bring_on (Gossips heard other) c d h = stays (Gossips heard other) c d.is.now h
     bring_on (Strange p) c d h = absurd d
 
     -- what is inside a reply was there
@@ -233,7 +234,7 @@ module _ (O : Ops) (S : Sound O) where
     was_inside (Got p child ended kept) q u d h = out q u _ d.is.now (got_inside n d.is.body d.is.keeps d.is.done q u) h
     was_inside (Poked p true) q u d h = mark_inside s q u (sym d.is.now ∙ h)
     was_inside (Poked p false) q u d h = sym d.is.now ∙ h
-    was_inside (Begin p to line) q u d h = out q u _ d.is.now (λ z. cc) h
+    was_inside (Begin p to reason) q u d h = out q u _ d.is.now (λ z. cc) h
     was_inside (Keep p to line) q u d h = keep_inside (record { to = to; line = line }) s q u (sym d.is.now ∙ h)
     was_inside (Missed p to line) q u d h = sym d.is.now ∙ h
     was_inside (Again p to place line) q u d h = sym d.is.now ∙ h
@@ -245,6 +246,7 @@ module _ (O : Ops) (S : Sound O) where
     was_inside (Told p at source hops line poked) q u d h = sym d.is.now ∙ h
     was_inside (Refused p to why line) q u d h = sym d.is.now ∙ h
     was_inside (Closed line) q u d h = sym d.is.now ∙ h
+    was_inside (Gossips heard other) q u d h = sym d.is.now ∙ h
     was_inside (Strange p) q u d h = absurd d
 
   module _ (w : World O) (t : Turn O) (v : World O) (sp next : ℕ → Spot O) (stands : Stands O S sp w) (st : Step O S sp w t next v) where
@@ -288,7 +290,7 @@ module _ (O : Ops) (S : Sound O) where
         let g = got_brings O n (w.nodes n) (v.nodes n) (sp p) r p child ended kept load.is in
         inr ((_, (stands.coupled.child p c (g.0 ∙ e)).0), (_, refl), ap (site O) load.is.was)
     child_was (Poked p used) r load c e = absurd cc
-    child_was (Begin p to line) r load c e = absurd cc
+    child_was (Begin p to reason) r load c e = absurd cc
     child_was (Keep p to line) r load c e = absurd cc
     child_was (Missed p to line) r load c e = absurd cc
     child_was (Again p to place line) r load c e = absurd cc
@@ -300,6 +302,7 @@ module _ (O : Ops) (S : Sound O) where
     child_was (Told p at source hops line poked) r load c e = absurd cc
     child_was (Refused p to why line) r load c e = absurd cc
     child_was (Closed line) r load c e = absurd cc
+    child_was (Gossips heard other) r load c e = absurd cc
     child_was (Strange p) r load c e = absurd cc
 
     pub was_child : (c : ℕ) → child_of what ≡ Some c → Child_was what st.own c
@@ -414,7 +417,7 @@ module _ (O : Ops) (S : Sound O) where
     ok_own ins (Got x child ended kept) r d not m spot i ok = from_to (Got x child ended kept) (sp x) r _ _ m spot i d.is.was d.is.now refl (got_over d.is.body d.is.keeps d.is.done) (got_place d.is.body d.is.keeps d.is.done spot) ok
     ok_own ins (Poked x true) r d not m spot i ok = from_to (Poked x true) (sp x) r (sp x) (mark O (sp x)) m spot i refl d.is.now refl (λ e. (mark_site (sp x)).2 ∙ e) (λ e. inr (mark_place next (sp x) spot (place_stays ins x not (sp x) refl spot e))) ok
     ok_own ins (Poked x false) r d not m spot i ok = from_to (Poked x false) (sp x) r (sp x) (sp x) m spot i refl d.is.now refl (λ e. e) (λ e. inr (place_stays ins x not (sp x) refl spot e)) ok
-    ok_own ins (Begin x to line) r d not m spot i ok = from_to (Begin x to line) (sp x) r _ _ m spot i d.is.was d.is.now refl (λ e. absurd cc) (λ e. inr e) ok
+    ok_own ins (Begin x to reason) r d not m spot i ok = from_to (Begin x to reason) (sp x) r _ _ m spot i d.is.was d.is.now refl (λ e. absurd cc) (λ e. inr e) ok
     ok_own ins (Keep x to line) r d not m spot i ok = from_to (Keep x to line) (sp x) r (sp x) (keep_in O (record { to = to; line = line }) (sp x)) m spot i refl d.is.now refl (λ e. (keep_site (record { to = to; line = line }) (sp x)).2 ∙ e) (λ e. inr (keep_place next (record { to = to; line = line }) (sp x) spot (place_stays ins x not (sp x) refl spot e))) ok
     ok_own ins (Missed x to line) r d not m spot i ok = from_to (Missed x to line) (sp x) r (sp x) (sp x) m spot i refl d.is.now refl (λ e. e) (λ e. inr (place_stays ins x not (sp x) refl spot e)) ok
     ok_own ins (Again x to place line) r d not m spot i ok = from_to (Again x to place line) (sp x) r (sp x) (sp x) m spot i refl d.is.now refl (λ e. e) (λ e. inr (place_stays ins x not (sp x) refl spot e)) ok
@@ -431,6 +434,7 @@ module _ (O : Ops) (S : Sound O) where
     ok_own ins (Told x at source hops line poked) r d not m spot i ok = from_to (Told x at source hops line poked) (sp x) r (sp x) (sp x) m spot i refl d.is.now refl (λ e. e) (λ e. inr (place_stays ins x not (sp x) refl spot e)) ok
     ok_own ins (Refused x to why line) r d not m spot i ok = from_to (Refused x to why line) (sp x) r (sp x) (sp x) m spot i refl d.is.now refl (λ e. e) (λ e. inr (place_stays ins x not (sp x) refl spot e)) ok
     ok_own ins (Closed line) r d not m spot i ok = from_to (Closed line) (sp 0) r (sp 0) (sp 0) m spot i refl d.is.now refl (λ e. e) (λ e. inr (place_stays ins 0 not (sp 0) refl spot e)) ok
+    ok_own ins (Gossips heard other) r d not m spot i ok = from_to (Gossips heard other) (sp 0) r (sp 0) (sp 0) m spot i refl d.is.now refl (λ e. e) (λ e. inr (place_stays ins 0 not (sp 0) refl spot e)) ok
     ok_own ins (Strange x) r d not m spot i ok = absurd d
 
     moves_kept : (h : List (Turn O)) (q : ℕ) → q ≢ p → moves q (t.event ∷ events O h) ≡ moves q (events O h)

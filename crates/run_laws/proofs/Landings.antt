@@ -1,7 +1,7 @@
 -- Home is told of each landing as it was, in every run.
 use Rattle.std.proofs.Common.{◌≡◌, ℕ, Option, Some, None, List, ap, [], ◌∷◌}
 use Rattle.run_tokens.specs.Ops.{Ops, Sound}
-use Rattle.run_tokens.specs.Deeds.{Deed, Run, Kill, Bid, Unsent, Other, Steps, Sent, Heed, Held, Served, Got, Poked, Begin, Keep, Missed, Again, Allows, Denies, Depart, Stay, Land, Told, Refused, Closed, Strange}
+use Rattle.run_tokens.specs.Deeds.{Deed, Run, Kill, Bid, Unsent, Other, Steps, Sent, Heed, Held, Served, Got, Poked, Begin, Keep, Missed, Again, Allows, Denies, Depart, Stay, Land, Told, Refused, Closed, Gossips, Strange}
 use Rattle.run_tokens.specs.Notes.{Note, Landed, Turn, Way, way}
 use Rattle.run_tokens.specs.Spots.{Spot}
 use Rattle.run_tokens.specs.Does.{Does}
@@ -41,7 +41,7 @@ module _ (O : Ops) (S : Sound O) where
     landing_law (Served p manner number value child signal ends more poked) d = tt
     landing_law (Got p child ended kept) d = tt
     landing_law (Poked p used) d = tt
-    landing_law (Begin p to line) d = tt
+    landing_law (Begin p to reason) d = tt
     landing_law (Keep p to line) d = tt
     landing_law (Missed p to line) d = tt
     landing_law (Again p to place line) d = tt
@@ -55,6 +55,7 @@ module _ (O : Ops) (S : Sound O) where
         rs.landed p hops at source line (way_tells_report p hops (rs.report p hops) at t.event.node source line was)
     landing_law (Refused p to why line) d = tt
     landing_law (Closed line) d = tt
+    landing_law (Gossips heard other) d = tt
     landing_law (Strange p) d = tt
 
   pub path_landings : (h : List (Turn O)) (sp : ℕ → Spot O) (w : World O) → Path O S h sp w → LandingLaw (events O h)

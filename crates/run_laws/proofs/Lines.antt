@@ -1,8 +1,8 @@
 -- Each move line has at most one outcome: its errand is in one place, and is settled once.
-use Rattle.std.proofs.Common.{◌≡◌, ◌≢◌, ℕ, ◌+◌, ◌<◌, ◌≤◌, ◌==◌, ◌⊎◌, inl, inr, Bool, true, false, cond, Option, Some, None, List, [], ◌∷◌, refl, sym, ap, ◌∙◌, subst, arith}
+use Rattle.std.proofs.Common.{◌≡◌, ◌≢◌, ℕ, ◌+◌, ◌≤◌, ◌==◌, ◌⊎◌, inl, inr, Bool, true, false, cond, Option, Some, None, List, [], ◌∷◌, refl, sym, ap, ◌∙◌, subst, arith}
 use Rattle.run_tokens.specs.Ops.{Ops, Sound, is_child}
-use Rattle.run_tokens.specs.Deeds.{Manner, Did, Broke, Fell, Paused, Why, KeptTold, Deed, Run, Kill, Bid, Unsent, Other, Steps, Sent, Heed, Held, Served, Got, Poked, Begin, Keep, Missed, Again, Allows, Denies, Depart, Stay, Land, Told, Refused, Closed, Strange, pid_of, child_of}
-use Rattle.run_tokens.specs.Notes.{Note, Call, Pause, Reply, Poke, Go, NotHere, Ask, Allow, Deny, Move, Landed, NoMove, Post, Turn, letter, Body, Kept, Local, Believed, Waiting, Asking, Way, way, Progress}
+use Rattle.run_tokens.specs.Deeds.{ForLine, Chosen, Manner, Did, Broke, Fell, Paused, Why, KeptTold, Deed, Run, Kill, Bid, Unsent, Other, Steps, Sent, Heed, Held, Served, Got, Poked, Begin, Keep, Missed, Again, Allows, Denies, Depart, Stay, Land, Told, Refused, Closed, Gossips, Strange, pid_of, child_of}
+use Rattle.run_tokens.specs.Notes.{Note, Call, Pause, Reply, Poke, Half, Go, NotHere, Ask, Allow, Deny, Move, Landed, NoMove, Post, Turn, letter, Body, Kept, Local, Believed, Waiting, Asking, Way, way, Progress}
 use Rattle.run_tokens.specs.Spots.{Spot, Travels}
 use Rattle.run_tokens.specs.Cluster.{World, Goes}
 use Rattle.run_tokens.specs.Does.{Does, ServedBy, got_posts, kept_told}
@@ -38,6 +38,7 @@ module _ (O : Ops) (S : Sound O) where
   NoLine (Pause p r) = Unit {0}
   NoLine (Reply p d) = Unit {0}
   NoLine (Poke p) = Unit {0}
+  NoLine (Half places) = Unit {0}
   NoLine (Go p to hops line) = ⊥
   NoLine (NotHere p to hops line) = ⊥
   NoLine (Ask p need) = Unit {0}
@@ -52,6 +53,7 @@ module _ (O : Ops) (S : Sound O) where
   OnlyLine l (Pause p r) = Unit {0}
   OnlyLine l (Reply p d) = Unit {0}
   OnlyLine l (Poke p) = Unit {0}
+  OnlyLine l (Half places) = Unit {0}
   OnlyLine l (Go p to hops line) = line ≡ l
   OnlyLine l (NotHere p to hops line) = line ≡ l
   OnlyLine l (Ask p need) = Unit {0}
@@ -66,6 +68,7 @@ module _ (O : Ops) (S : Sound O) where
   no_line l (Pause p r) h = refl
   no_line l (Reply p d) h = refl
   no_line l (Poke p) h = refl
+  no_line l (Half places) h = refl
   no_line l (Go p to hops line) h = absurd h
   no_line l (NotHere p to hops line) h = absurd h
   no_line l (Ask p need) h = refl
@@ -80,6 +83,7 @@ module _ (O : Ops) (S : Sound O) where
   only_other l k (Pause p r) h ne = refl
   only_other l k (Reply p d) h ne = refl
   only_other l k (Poke p) h ne = refl
+  only_other l k (Half places) h ne = refl
   only_other l k (Go p to hops line) h ne = other_numbers line k (λ z. ne (sym z ∙ h))
   only_other l k (NotHere p to hops line) h ne = other_numbers line k (λ z. ne (sym z ∙ h))
   only_other l k (Ask p need) h ne = refl
@@ -131,6 +135,7 @@ module _ (O : Ops) (S : Sound O) where
   ErrandTells (Pause p r) a b e = ⊥
   ErrandTells (Reply p d) a b e = ⊥
   ErrandTells (Poke p) a b e = ⊥
+  ErrandTells (Half places) a b e = ⊥
   ErrandTells (Go p to h line) a b e = (e ≡ Going b p to h) × (a ≡ 0)
   ErrandTells (NotHere p to h line) a b e = e ≡ Back a p to h
   ErrandTells (Ask p need) a b e = ⊥
@@ -156,11 +161,11 @@ module _ (O : Ops) (S : Sound O) where
   errand_tells l Over w h = absurd cc
 
   -- the line of a context that waits or asks
-  waiting_line : (k : Option Kept) (b : Body O) (n : ℕ) (s : Spot O) → StateTells O (Waiting k) b n s → (facts_of O S s).line ≡ kept_line k
-  waiting_line k b n s (inl (x, e)) = ap (λ (z : Spot O). (facts_of O S z).line) e
-  waiting_line k b n s (inr (inl (x, e))) = ap (λ (z : Spot O). (facts_of O S z).line) e
-  waiting_line k b n s (inr (inr (inl (x, e)))) = ap (λ (z : Spot O). (facts_of O S z).line) e
-  waiting_line k b n s (inr (inr (inr (d, x, y, e)))) = ap (λ (z : Spot O). (facts_of O S z).line) e
+  waiting_line : (x : Bool) (k : Option Kept) (b : Body O) (n : ℕ) (s : Spot O) → StateTells O (Waiting x k) b n s → (facts_of O S s).line ≡ kept_line k
+  waiting_line x k b n s (inl (q, e, z)) = ap (λ (z : Spot O). (facts_of O S z).line) e
+  waiting_line x k b n s (inr (inl (q, e, z))) = ap (λ (z : Spot O). (facts_of O S z).line) e
+  waiting_line x k b n s (inr (inr (inl (q, e, z)))) = ap (λ (z : Spot O). (facts_of O S z).line) e
+  waiting_line x k b n s (inr (inr (inr (d, y, e)))) = ap (λ (z : Spot O). (facts_of O S z).line) e
 
   asking_line : (to : ℕ) (l : Option ℕ) (b : Body O) (n : ℕ) (s : Spot O) → StateTells O (Asking to l) b n s → (facts_of O S s).line ≡ l
   asking_line to l b n s (inl (x, e)) = ap (λ (z : Spot O). (facts_of O S z).line) e
@@ -168,7 +173,7 @@ module _ (O : Ops) (S : Sound O) where
   asking_line to l b n s (inr (inr (x, y, e))) = ap (λ (z : Spot O). (facts_of O S z).line) e
 
   module _ (w : World O) (t : Turn O) (v : World O) (goes : Goes O w t v) (sp : ℕ → Spot O) (st : Stands O S sp w) (er : ℕ → Errand)
-      (under : (l : ℕ) → Under O (of_line O l) (errand_way O l (er l)) w) (holders : (q l : ℕ) → (facts_of O S (sp q)).line ≡ Some l → er l ≡ With q) (untried : (l : ℕ) → (w.nodes 0).progress.line < l → er l ≡ Untried) where
+      (under : (l : ℕ) → Under O (of_line O l) (errand_way O l (er l)) w) (holders : (q l : ℕ) → (facts_of O S (sp q)).line ≡ Some l → er l ≡ With q) (untried : (l : ℕ) → (w.nodes 0).progress.line ≤ l → er l ≡ Untried) where
     abbrev n : ℕ
     n = t.event.node
 
@@ -183,24 +188,23 @@ module _ (O : Ops) (S : Sound O) where
       pub ways : (l : ℕ) → Under O (of_line O l) (errand_way O l (er2 l)) v
       pub own : (l : ℕ) → (facts_of O S r).line ≡ Some l → er2 l ≡ With (pid_of what)
       pub others : (q l : ℕ) → q ≢ pid_of what → er l ≡ With q → er2 l ≡ With q
-      pub fresh : (l : ℕ) → (v.nodes 0).progress.line < l → er2 l ≡ Untried
+      pub fresh : (l : ℕ) → (v.nodes 0).progress.line ≤ l → er2 l ≡ Untried
       pub result : (l : ℕ) → settled (er2 l) ≡ counted_if (is_child (outcome_line what f) l) (settled (er l))
 
     served_line : (manner : Manner) (p : ℕ) (number : Option ℕ) (value : Option ℤ) (child signal : Option ℕ) (ends : Option End) (more : Bool) (poked : List ℕ) → ServedBy O manner n p number value child signal ends more poked old t new → new.progress.line ≡ old.progress.line
-    served_line Did p number value child signal ends more poked (inl d) = lines_same d.progress
-    served_line Did p number value child signal ends more poked (inr d) = lines_same d.progress
-    served_line Broke p number value child signal ends more poked (inl d) = lines_same d.progress
-    served_line Broke p number value child signal ends more poked (inr d) = lines_same d.progress
-    served_line Fell p number value child signal ends more poked (inl d) = lines_same d.progress
-    served_line Fell p number value child signal ends more poked (inr d) = lines_same d.progress
+    served_line Did p number value child signal ends more poked (inl d) = d.progress.line
+    served_line Did p number value child signal ends more poked (inr d) = d.progress.line
+    served_line Broke p number value child signal ends more poked (inl d) = d.progress.line
+    served_line Broke p number value child signal ends more poked (inr d) = d.progress.line
+    served_line Fell p number value child signal ends more poked d = d.progress.line
     served_line Paused p number value child signal ends more poked d = lines_same d.progress
 
     line_grows : (what : Deed) → Does O what n old t new → old.progress.line ≤ new.progress.line
-    line_grows (Run line i p) d = omega (arith, d.order.rises, lines_same d.order.is)
-    line_grows (Kill line p g poked) d = omega (arith, d.order.rises, lines_same d.order.is)
-    line_grows (Bid line p to) d = omega (arith, d.order.rises, lines_same d.order.is)
-    line_grows (Unsent line p never) d = omega (arith, d.order.rises, lines_same d.order.is)
-    line_grows (Other line input) d = omega (arith, d.order.rises, lines_same d.order.is)
+    line_grows (Run line i p) d = omega (arith, d.order.rises, d.order.is.line)
+    line_grows (Kill line p g poked) d = omega (arith, d.order.rises, d.order.is.line)
+    line_grows (Bid line p to) d = omega (arith, d.order.rises, d.order.is.line)
+    line_grows (Unsent line p never) d = omega (arith, d.order.rises, d.order.is.line)
+    line_grows (Other line input) d = omega (arith, d.order.rises, d.order.is.line)
     line_grows (Steps p k) d = omega (arith, lines_same d.still.progress)
     line_grows (Sent p k) d = omega (arith, lines_same d.still.progress)
     line_grows (Heed p) d = omega (arith, lines_same d.still.progress)
@@ -209,7 +213,7 @@ module _ (O : Ops) (S : Sound O) where
     line_grows (Got p child ended kept) d = omega (arith, lines_same d.still.progress)
     line_grows (Poked p true) d = omega (arith, lines_same d.still.progress)
     line_grows (Poked p false) d = omega (arith, lines_same d.still.progress)
-    line_grows (Begin p to line) d = omega (arith, lines_same d.still.progress)
+    line_grows (Begin p to reason) d = omega (arith, lines_same d.still.progress)
     line_grows (Keep p to line) d = omega (arith, lines_same d.still.progress)
     line_grows (Missed p to line) d = omega (arith, lines_same d.still.progress)
     line_grows (Again p to place line) d = omega (arith, lines_same d.still.progress)
@@ -222,6 +226,7 @@ module _ (O : Ops) (S : Sound O) where
     line_grows (Refused p to why line) (inl d) = omega (arith, lines_same d.still.progress)
     line_grows (Refused p to why line) (inr d) = omega (arith, lines_same d.still.progress)
     line_grows (Closed line) d = omega (arith, lines_same d.still.progress)
+    line_grows (Gossips heard other) d = omega (arith, lines_same d.still.progress)
     line_grows (Strange p) d = omega (arith, lines_same d.still.progress)
 
     home_grows : (what : Deed) → Does O what n old t new → (w.nodes 0).progress.line ≤ (v.nodes 0).progress.line
@@ -246,7 +251,7 @@ module _ (O : Ops) (S : Sound O) where
 
     -- an event that moves one errand
     touched : (what : Deed) (f : Facts) (r : Spot O) (l : ℕ) (e2 : Errand) (taken : Option (Post O)) (posted : List (Post O)) → Does O what n old t new → t.taken ≡ taken → t.posted ≡ posted → OnlyIn l taken → OnlyLines l posted → Under O (of_line O l) (errand_way O l e2) v
-        → ((q : ℕ) → q ≢ pid_of what → er l ≡ With q → ⊥) → ((k : ℕ) → (facts_of O S r).line ≡ Some k → (k ≡ l → e2 ≡ With (pid_of what)) × (k ≢ l → (facts_of O S (sp (pid_of what))).line ≡ Some k)) → ((v.nodes 0).progress.line < l → ⊥)
+        → ((q : ℕ) → q ≢ pid_of what → er l ≡ With q → ⊥) → ((k : ℕ) → (facts_of O S r).line ≡ Some k → (k ≡ l → e2 ≡ With (pid_of what)) × (k ≢ l → (facts_of O S (sp (pid_of what))).line ≡ Some k)) → ((v.nodes 0).progress.line ≤ l → ⊥)
         → (((outcome_line what f ≡ None) × (settled e2 ≡ settled (er l))) ⊎ ((outcome_line what f ≡ Some l) × (settled e2 ≡ settled (er l) + 1))) → Ran what f r (set l e2)
     touched what f r l e2 taken posted d e g only_t only_p here other own known result = record {
       ways = λ k. way_at k (k == l) refl;
@@ -268,8 +273,8 @@ module _ (O : Ops) (S : Sound O) where
         other_at q k ne x true y = absurd (other q ne (ap er (sym (numbers_same k l y)) ∙ x))
         other_at q k ne x false y = x
 
-        fresh_at : (k : ℕ) → (v.nodes 0).progress.line < k → (b : Bool) → (k == l) ≡ b → cond b e2 (er k) ≡ Untried
-        fresh_at k less true y = absurd (known (subst (λ (z : ℕ). (v.nodes 0).progress.line < z) (numbers_same k l y) less))
+        fresh_at : (k : ℕ) → (v.nodes 0).progress.line ≤ k → (b : Bool) → (k == l) ≡ b → cond b e2 (er k) ≡ Untried
+        fresh_at k less true y = absurd (known (subst (λ (z : ℕ). (v.nodes 0).progress.line ≤ z) (numbers_same k l y) less))
         fresh_at k less false y = untried k (omega (arith, home_grows what d, less))
 
         result_at : (k : ℕ) (b : Bool) → (k == l) ≡ b → (((outcome_line what f ≡ None) × (settled e2 ≡ settled (er l))) ⊎ ((outcome_line what f ≡ Some l) × (settled e2 ≡ settled (er l) + 1))) → settled (cond b e2 (er k)) ≡ counted_if (is_child (outcome_line what f) k) (settled (er k))
@@ -296,7 +301,7 @@ module _ (O : Ops) (S : Sound O) where
       is_line l e k x = sym (some_line l k (sym e ∙ (sym line_now ∙ x)))
 
     -- a line that is tried was carried out
-    tried : (what : Deed) → Does O what n old t new → (l : ℕ) (e : Errand) → er l ≡ e → (e ≡ Untried → ⊥) → (v.nodes 0).progress.line < l → ⊥
+    tried : (what : Deed) → Does O what n old t new → (l : ℕ) (e : Errand) → er l ≡ e → (e ≡ Untried → ⊥) → (v.nodes 0).progress.line ≤ l → ⊥
     tried what d l e is not less = not (sym is ∙ untried l (omega (arith, home_grows what d, less)))
 
     itself : (l : ℕ) → (l == l) ≡ true
@@ -316,38 +321,38 @@ module _ (O : Ops) (S : Sound O) where
     order_line : (line p to : ℕ) (f : Facts) (r : Spot O) → (d : Does O (Bid line p to) n old t new) → Needs O (Bid line p to) n old new (sp p) r → Result (Bid line p to) f r
     order_line line p to f r d need =
         let home : n ≡ 0 = d.home in
-        let new_line : er line ≡ Untried = untried line (subst (λ (k : ℕ). (w.nodes k).progress.line < line) home d.order.rises) in
+        let new_line : er line ≡ Untried = untried line (subst (λ (k : ℕ). (w.nodes k).progress.line ≤ line) home d.order.rises) in
         let not = away line Untried new_line (λ q x. cc) in (
           set line (Going (old.believed p).place p to (old.believed p).hops),
           touched (Bid line p to) f r line (Going (old.believed p).place p to (old.believed p).hops) None _ d d.base.took d.base.posts tt (refl, tt)
               (goes_out O (of_line O line) w t v goes _ [] None (subst (λ (e : Errand). Under O (of_line O line) (errand_way O line e) w) new_line (under line)) d.base.took tt d.base.posts (itself line) tt)
               (λ q ne x. not q x) (on_way p line r (keeps (Bid line p to) r d need refl) not _)
-              (λ less. (let less2 : (v.nodes n).progress.line < line = subst (λ (k : ℕ). (v.nodes k).progress.line < line) (sym home) less in absurd (omega (arith, lines_same d.order.is, less2))))
+              (λ less. (let less2 : (v.nodes n).progress.line ≤ line = subst (λ (k : ℕ). (v.nodes k).progress.line ≤ line) (sym home) less in absurd (omega (arith, d.order.is.line, less2))))
               (inl (refl, sym (ap settled new_line))),
         )
 
     unsent_line : (line p : ℕ) (never : Bool) (f : Facts) (r : Spot O) → (d : Does O (Unsent line p never) n old t new) → Needs O (Unsent line p never) n old new (sp p) r → Result (Unsent line p never) f r
     unsent_line line p never f r d need =
         let home : n ≡ 0 = d.home in
-        let new_line : er line ≡ Untried = untried line (subst (λ (k : ℕ). (w.nodes k).progress.line < line) home d.order.rises) in
+        let new_line : er line ≡ Untried = untried line (subst (λ (k : ℕ). (w.nodes k).progress.line ≤ line) home d.order.rises) in
         let not = away line Untried new_line (λ q x. cc) in (
           set line Over,
           touched (Unsent line p never) f r line Over None [] d d.base.took d.base.posts tt tt
               (stays O (of_line O line) w t v goes None (subst (λ (e : Errand). Under O (of_line O line) (errand_way O line e) w) new_line (under line)) None [] d.base.took d.base.posts tt tt)
               (λ q ne x. not q x) (on_way p line r (keeps (Unsent line p never) r d need refl) not _)
-              (λ less. (let less2 : (v.nodes n).progress.line < line = subst (λ (k : ℕ). (v.nodes k).progress.line < line) (sym home) less in absurd (omega (arith, lines_same d.order.is, less2))))
+              (λ less. (let less2 : (v.nodes n).progress.line ≤ line = subst (λ (k : ℕ). (v.nodes k).progress.line ≤ line) (sym home) less in absurd (omega (arith, d.order.is.line, less2))))
               (inr (refl, ap (λ (e : Errand). settled e + 1) (sym new_line))),
         )
 
-    begin_line : (p to line : ℕ) (f : Facts) (r : Spot O) → (d : Does O (Begin p to line) n old t new) → Needs O (Begin p to line) n old new (sp p) r → Result (Begin p to line) f r
+    begin_line : (p to line : ℕ) (f : Facts) (r : Spot O) → (d : Does O (Begin p to (ForLine line)) n old t new) → Needs O (Begin p to (ForLine line)) n old new (sp p) r → Result (Begin p to (ForLine line)) f r
     begin_line p to line f r d need =
         let was = errand_tells line (er line) _ (was_under O (of_line O line) w t v goes (errand_way O line (er line)) _ (under line) d.base.took (itself line)).0 in
         let not = away line _ was.0 (λ q x. cc) in (
           set line (With p),
-          touched (Begin p to line) f r line (With p) _ _ d d.base.took d.base.posts refl (tt, tt)
+          touched (Begin p to (ForLine line)) f r line (With p) _ _ d d.base.took d.base.posts refl (tt, tt)
               (comes_in O (of_line O line) w t v goes (errand_way O line (er line)) _ _ (under line) d.base.took (itself line) d.base.posts (refl, tt))
-              (λ q ne x. not q x) (λ k x. (λ e. refl, λ ne. absurd (ne (is_line (Begin p to line) r d need line refl k x))))
-              (tried (Begin p to line) d line _ was.0 (λ z. cc)) (inl (refl, sym (ap settled was.0))),
+              (λ q ne x. not q x) (λ k x. (λ e. refl, λ ne. absurd (ne (is_line (Begin p to (ForLine line)) r d need line refl k x))))
+              (tried (Begin p to (ForLine line)) d line _ was.0 (λ z. cc)) (inl (refl, sym (ap settled was.0))),
         )
 
     keep_line : (p to line : ℕ) (f : Facts) (r : Spot O) → (d : Does O (Keep p to line) n old t new) → Needs O (Keep p to line) n old new (sp p) r → Result (Keep p to line) f r
@@ -492,7 +497,7 @@ module _ (O : Ops) (S : Sound O) where
     cond_none false o e = e
 
     got_line : (p : ℕ) (child : Option ℕ) (ended : Bool) (kept : Option KeptTold) (f : Facts) (r : Spot O) → f.line ≡ (facts_of O S (sp p)).line → (d : Does O (Got p child ended kept) n old t new) → Needs O (Got p child ended kept) n old new (sp p) r → Result (Got p child ended kept) f r
-    got_line p child ended kept f r fl d need = go d.keeps (waiting_line d.keeps d.body n (sp p) (context_tells O p (sp p) w (st.at p) n d.body (Waiting d.keeps) d.was)) d.kept_is d.base.posts
+    got_line p child ended kept f r fl d need = go d.keeps (waiting_line d.pause d.keeps d.body n (sp p) (context_tells O p (sp p) w (st.at p) n d.body (Waiting d.pause d.keeps) d.was)) d.kept_is d.base.posts
       where
         at : (k : Kept) (e : Bool) → (facts_of O S (sp p)).line ≡ Some k.line → ended ≡ e → kept ≡ Some (record { ends = e; to = k.to }) → t.posted ≡ cond e (letter O n 0 t.event.stamp (NoMove k.line) ∷ []) (letter O n k.to t.event.stamp (Ask p (O.pages (after O d.body.user d.done))) ∷ []) → Result (Got p child ended kept) f r
         at k true x y z g =
@@ -523,8 +528,7 @@ module _ (O : Ops) (S : Sound O) where
     served_lines Did p number value child signal ends more poked f r (inr d) need = plain (Served p Did number value child signal ends more poked) f r _ _ (inr d) need d.base.took d.base.posts tt (tt, pokes_none t.event.stamp old.believed poked) refl refl
     served_lines Broke p number value child signal ends more poked f r (inl d) need = plain (Served p Broke number value child signal ends more poked) f r _ _ (inl d) need d.base.took d.base.posts tt (tt, pokes_none t.event.stamp old.believed poked) refl refl
     served_lines Broke p number value child signal ends more poked f r (inr d) need = plain (Served p Broke number value child signal ends more poked) f r _ _ (inr d) need d.base.took d.base.posts tt (tt, pokes_none t.event.stamp old.believed poked) refl refl
-    served_lines Fell p number value child signal ends more poked f r (inl d) need = plain (Served p Fell number value child signal ends more poked) f r _ _ (inl d) need d.base.took d.base.posts tt (tt, pokes_none t.event.stamp old.believed poked) refl refl
-    served_lines Fell p number value child signal ends more poked f r (inr d) need = plain (Served p Fell number value child signal ends more poked) f r _ _ (inr d) need d.base.took d.base.posts tt (tt, pokes_none t.event.stamp old.believed poked) refl refl
+    served_lines Fell p number value child signal ends more poked f r d need = plain (Served p Fell number value child signal ends more poked) f r _ _ d need d.base.took d.base.posts tt (tt, pokes_none t.event.stamp old.believed poked) refl refl
     served_lines Paused p number value child signal ends more poked f r d need = plain (Served p Paused number value child signal ends more poked) f r _ _ d need d.base.took d.base.posts tt (tt, pokes_none t.event.stamp old.believed poked) refl refl
 
     pub lines_at : (what : Deed) (f : Facts) (r : Spot O) → f.line ≡ (facts_of O S (sp (pid_of what))).line → (d : Does O what n old t new) → Needs O what n old new (sp (pid_of what)) r → Result what f r
@@ -541,7 +545,9 @@ module _ (O : Ops) (S : Sound O) where
     lines_at (Got p child ended kept) f r fl d need = got_line p child ended kept f r fl d need
     lines_at (Poked p true) f r fl d need = plain (Poked p true) f r _ _ d need d.base.took d.base.posts tt tt refl refl
     lines_at (Poked p false) f r fl d need = plain (Poked p false) f r _ _ d need d.base.took d.base.posts tt tt refl refl
-    lines_at (Begin p to line) f r fl d need = begin_line p to line f r d need
+    lines_at (Begin p to (ForLine line)) f r fl d need = begin_line p to line f r d need
+    lines_at (Begin p to (Chosen false other)) f r fl d need = (er, untouched (Begin p to (Chosen false other)) f r _ _ d d.base.took d.base.posts tt (tt, (tt, tt)) (drops (Begin p to (Chosen false other)) r d need refl) refl)
+    lines_at (Begin p to (Chosen true other)) f r fl d need = (er, untouched (Begin p to (Chosen true other)) f r _ _ d d.base.took d.base.posts tt (tt, tt) (drops (Begin p to (Chosen true other)) r d need refl) refl)
     lines_at (Keep p to line) f r fl d need = keep_line p to line f r d need
     lines_at (Missed p to line) f r fl d need = miss_line p to line f r d need
     lines_at (Again p to place line) f r fl d need = again_line p to place line f r d need
@@ -553,6 +559,8 @@ module _ (O : Ops) (S : Sound O) where
     lines_at (Told p at source hops line poked) f r fl d need = told_line p at source hops line poked f r d need
     lines_at (Refused p to why line) f r fl d need = refused_go_line p to why line f r d need
     lines_at (Closed line) f r fl d need = close_line line f r d need
+    lines_at (Gossips false other) f r fl d need = (er, untouched (Gossips false other) f r _ _ d d.base.took d.base.posts tt (tt, tt) (keeps (Gossips false other) r d need refl) refl)
+    lines_at (Gossips true other) f r fl d need = (er, untouched (Gossips true other) f r _ _ d d.base.took d.base.posts tt tt (keeps (Gossips true other) r d need refl) refl)
     lines_at (Strange p) f r fl d need = absurd need
 
   born_line : (what : Deed) (n : ℕ) (s : Spot O) (c : ℕ) → child_of what ≡ Some c → (facts_of O S (born_spot O what n s c)).line ≡ None
@@ -568,7 +576,7 @@ module _ (O : Ops) (S : Sound O) where
   born_line (Served p manner number value child signal ends more poked) n s c e = refl
   born_line (Got p child ended kept) n s c e = refl
   born_line (Poked p used) n s c e = absurd cc
-  born_line (Begin p to line) n s c e = absurd cc
+  born_line (Begin p to reason) n s c e = absurd cc
   born_line (Keep p to line) n s c e = absurd cc
   born_line (Missed p to line) n s c e = absurd cc
   born_line (Again p to place line) n s c e = absurd cc
@@ -580,6 +588,7 @@ module _ (O : Ops) (S : Sound O) where
   born_line (Told p at source hops line poked) n s c e = absurd cc
   born_line (Refused p to why line) n s c e = absurd cc
   born_line (Closed line) n s c e = absurd cc
+  born_line (Gossips heard other) n s c e = absurd cc
   born_line (Strange p) n s c e = absurd cc
 
   -- the invariant of lines
@@ -587,7 +596,7 @@ module _ (O : Ops) (S : Sound O) where
     pub errands : ℕ → Errand
     pub under : (l : ℕ) → Under O (of_line O l) (errand_way O l (errands l)) w
     pub holders : (q l : ℕ) → (facts_of O S (sp q)).line ≡ Some l → errands l ≡ With q
-    pub untried : (l : ℕ) → (w.nodes 0).progress.line < l → errands l ≡ Untried
+    pub untried : (l : ℕ) → (w.nodes 0).progress.line ≤ l → errands l ≡ Untried
     pub result : (l : ℕ) → outcomes l (events O h) ≡ settled (errands l)
 
   lines_next : (h : List (Turn O)) (w : World O) (t : Turn O) (v : World O) (sp next : ℕ → Spot O) → Path O S h sp w → Stands O S sp w → Step O S sp w t next v → Lines h sp w → Lines (t ∷ h) next v

@@ -1,7 +1,7 @@
 -- The counts of a process's moves and its spot agree.
 use Rattle.std.proofs.Common.{◌≡◌, ℕ, ◌+◌, Bool, true, false, cond, Option, Some, None, List, [], ◌∷◌, refl, sym, ap, ◌∙◌, subst, arith}
 use Rattle.run_tokens.specs.Ops.{Ops, Sound}
-use Rattle.run_tokens.specs.Deeds.{Manner, Did, Broke, Fell, Paused, KeptTold, Deed, Run, Kill, Bid, Unsent, Other, Steps, Sent, Heed, Held, Served, Got, Poked, Begin, Keep, Missed, Again, Allows, Denies, Depart, Stay, Land, Told, Refused, Closed, Strange, pid_of, child_of}
+use Rattle.run_tokens.specs.Deeds.{Manner, Did, Broke, Fell, Paused, KeptTold, Deed, Run, Kill, Bid, Unsent, Other, Steps, Sent, Heed, Held, Served, Got, Poked, Begin, Keep, Missed, Again, Allows, Denies, Depart, Stay, Land, Told, Refused, Closed, Gossips, Strange, pid_of, child_of}
 use Rattle.run_tokens.specs.Notes.{Done, Turn, Body, Kept, Local}
 use Rattle.run_tokens.specs.Spots.{Spot, Nowhere, Runs, Calls, Holds, Pauses, Answered, Asks, Granted, Denied, Travels, InReply, Ended}
 use Rattle.run_tokens.specs.Home.{returned, after}
@@ -142,7 +142,7 @@ module _ (O : Ops) (S : Sound O) where
     balanced_own (Got p child ended kept) d b = subst (λ (k : Spot O). Balanced k (moves_own (Got p child ended kept) m)) (sym d.is.now) (subst (λ (k : Option KeptTold). Balanced (got_spot O n d.is.body d.is.keeps d.is.done) (record m { begins = begun_by k m.begins })) (sym d.is.kept_is) (got_balanced n d.is.body d.is.keeps d.is.done d.is.paused d.is.held m (subst (λ (k : Spot O). Balanced k m) d.is.was b)))
     balanced_own (Poked p true) d b = subst (λ (k : Spot O). Balanced k m) (sym d.is.now) (like s (mark O s) m (mark_like s m.lands).0 (mark_like s m.lands).1 (mark_like s m.lands).2 b)
     balanced_own (Poked p false) d b = subst (λ (k : Spot O). Balanced k m) (sym d.is.now) b
-    balanced_own (Begin p to line) d b = (let x = subst (λ (k : Spot O). Balanced k m) d.is.was b in subst (λ (k : Spot O). Balanced k (moves_own (Begin p to line) m)) (sym d.is.now) (record { begins = omega (arith, x.begins, x.departs); departs = omega (arith, x.departs); hops = x.hops }))
+    balanced_own (Begin p to reason) d b = (let x = subst (λ (k : Spot O). Balanced k m) d.is.was b in subst (λ (k : Spot O). Balanced k (moves_own (Begin p to reason) m)) (sym d.is.now) (record { begins = omega (arith, x.begins, x.departs); departs = omega (arith, x.departs); hops = x.hops }))
     balanced_own (Keep p to line) d b = subst (λ (k : Spot O). Balanced k m) (sym d.is.now) (like s (keep_in O (record { to = to; line = line }) s) m (keep_like (record { to = to; line = line }) s m.lands).0 (keep_like (record { to = to; line = line }) s m.lands).1 (keep_like (record { to = to; line = line }) s m.lands).2 b)
     balanced_own (Missed p to line) d b = subst (λ (k : Spot O). Balanced k m) (sym d.is.now) b
     balanced_own (Again p to place line) d b = subst (λ (k : Spot O). Balanced k m) (sym d.is.now) b
@@ -154,6 +154,7 @@ module _ (O : Ops) (S : Sound O) where
     balanced_own (Told p at source hops line poked) d b = (let x = subst (λ (k : Spot O). Balanced k m) (sym d.is.now) b in record { begins = x.begins; departs = x.departs; hops = x.hops })
     balanced_own (Refused p to why line) d b = subst (λ (k : Spot O). Balanced k m) (sym d.is.now) b
     balanced_own (Closed line) d b = subst (λ (k : Spot O). Balanced k m) (sym d.is.now) b
+    balanced_own (Gossips heard other) d b = subst (λ (k : Spot O). Balanced k m) (sym d.is.now) b
     balanced_own (Strange p) d b = absurd d
 
   module _ (w : World O) (t : Turn O) (v : World O) (sp next : ℕ → Spot O) (stands : Stands O S sp w) (st : Step O S sp w t next v) where
@@ -178,7 +179,7 @@ module _ (O : Ops) (S : Sound O) where
         let g = got_brings O n (w.nodes n) (v.nodes n) (sp p) r p child ended kept load.is in
         moved (sp c) _ _ _ m (stands.coupled.child p c (g.0 ∙ e)).0 refl refl refl (λ h. sym h) b
     child_balanced (Poked p used) r load c e m b = absurd cc
-    child_balanced (Begin p to line) r load c e m b = absurd cc
+    child_balanced (Begin p to reason) r load c e m b = absurd cc
     child_balanced (Keep p to line) r load c e m b = absurd cc
     child_balanced (Missed p to line) r load c e m b = absurd cc
     child_balanced (Again p to place line) r load c e m b = absurd cc
@@ -190,6 +191,7 @@ module _ (O : Ops) (S : Sound O) where
     child_balanced (Told p at source hops line poked) r load c e m b = absurd cc
     child_balanced (Refused p to why line) r load c e m b = absurd cc
     child_balanced (Closed line) r load c e m b = absurd cc
+    child_balanced (Gossips heard other) r load c e m b = absurd cc
     child_balanced (Strange p) r load c e m b = absurd cc
 
     balanced_next : (h : List (Turn O)) → ((q : ℕ) → Balanced (sp q) (moves q (events O h))) → (q : ℕ) → Part O t.event.what n sp st.own q → Balanced (next q) (moves q (t.event ∷ events O h))

@@ -1,8 +1,8 @@
 -- A Go is sent again only with news, and to the believed place.
 use Rattle.std.proofs.Common.{◌≡◌, ◌≢◌, ℕ, ◌<◌, ◌≤◌, ◌==◌, ◌&&◌, ◌⊎◌, inl, inr, Bool, true, false, cond, Option, Some, None, List, [], ◌∷◌, ◌++◌, refl, sym, ap, ◌∙◌, subst}
 use Rattle.run_tokens.specs.Ops.{Ops, Sound}
-use Rattle.run_tokens.specs.Deeds.{Manner, Did, Broke, Fell, Paused, Deed, Run, Kill, Bid, Unsent, Other, Steps, Sent, Heed, Held, Served, Got, Poked, Begin, Keep, Missed, Again, Allows, Denies, Depart, Stay, Land, Told, Refused, Closed, Strange, Noted, pid_of}
-use Rattle.run_tokens.specs.Notes.{Done, Note, Call, Pause, Reply, Poke, Go, NotHere, Ask, Allow, Deny, Move, Landed, NoMove, Post, Turn, letter, Body, Kept, Local, Believed}
+use Rattle.run_tokens.specs.Deeds.{ForLine, Chosen, Manner, Did, Broke, Fell, Paused, Deed, Run, Kill, Bid, Unsent, Other, Steps, Sent, Heed, Held, Served, Got, Poked, Begin, Keep, Missed, Again, Allows, Denies, Depart, Stay, Land, Told, Refused, Closed, Gossips, Strange, Noted, pid_of}
+use Rattle.run_tokens.specs.Notes.{Done, Note, Call, Pause, Reply, Poke, Half, Go, NotHere, Ask, Allow, Deny, Move, Landed, NoMove, Post, Turn, letter, Body, Kept, Local, Believed}
 use Rattle.run_tokens.specs.Spots.{Spot, site}
 use Rattle.run_tokens.specs.Cluster.{World, for_link, at_front, Goes}
 use Rattle.run_tokens.specs.Does.{Does, ServedBy, got_posts, place_told}
@@ -36,6 +36,7 @@ module _ (O : Ops) (S : Sound O) where
   NoteAsked es (Pause q r) = Unit {0}
   NoteAsked es (Reply q d) = Unit {0}
   NoteAsked es (Poke q) = Unit {0}
+  NoteAsked es (Half places) = Unit {0}
   NoteAsked es (Go q to i line) = Asked line es i
   NoteAsked es (NotHere q to i line) = Asked line es i
   NoteAsked es (Ask q need) = Unit {0}
@@ -74,6 +75,7 @@ module _ (O : Ops) (S : Sound O) where
   note_on es es2 ok f (Pause q r) h k = tt
   note_on es es2 ok f (Reply q d) h k = tt
   note_on es es2 ok f (Poke q) h k = tt
+  note_on es es2 ok f (Half places) h k = tt
   note_on es es2 ok f (Go q to i line) h k = f line i (h line (same_numbers line line refl)) k
   note_on es es2 ok f (NotHere q to i line) h k = f line i (h line (same_numbers line line refl)) k
   note_on es es2 ok f (Ask q need) h k = tt
@@ -191,7 +193,7 @@ module _ (O : Ops) (S : Sound O) where
     order_asked line x to is d = sends (Bid line x to) line is (λ l i ne y. pick_false (line == l) _ _ (other_numbers line l (λ z. ne (sym z))) y) none _ d.base.posts (here, tt)
       where
         fresh : ln.errands line ≡ Untried
-        fresh = ln.untried line (subst (λ (k : ℕ). (w.nodes k).progress.line < line) d.home d.order.rises)
+        fresh = ln.untried line (subst (λ (k : ℕ). (w.nodes k).progress.line ≤ line) d.home d.order.rises)
 
         none : (a b : ℕ) → words O (of_line O line) (goes.rest a b) ≡ []
         none a b = sym (ap (words O (of_line O line)) (goes.takes a b ∙ ap (λ (o : Option (Post O)). at_front O o a b ++ goes.rest a b) d.base.took)) ∙ (ln.under line a b ∙ ap (λ (e : Errand). Rattle.run_tokens.proofs.Talk.on_link O (errand_way O line e) a b) fresh)
@@ -213,8 +215,7 @@ module _ (O : Ops) (S : Sound O) where
     served_asked Did x number value child signal ends more poked is (inr d) = quiet (Served x Did number value child signal ends more poked) is (λ l i k. k) _ d.base.posts (tt, pokes_asked t.event.stamp old.believed poked)
     served_asked Broke x number value child signal ends more poked is (inl d) = quiet (Served x Broke number value child signal ends more poked) is (λ l i k. k) _ d.base.posts (tt, pokes_asked t.event.stamp old.believed poked)
     served_asked Broke x number value child signal ends more poked is (inr d) = quiet (Served x Broke number value child signal ends more poked) is (λ l i k. k) _ d.base.posts (tt, pokes_asked t.event.stamp old.believed poked)
-    served_asked Fell x number value child signal ends more poked is (inl d) = quiet (Served x Fell number value child signal ends more poked) is (λ l i k. k) _ d.base.posts (tt, pokes_asked t.event.stamp old.believed poked)
-    served_asked Fell x number value child signal ends more poked is (inr d) = quiet (Served x Fell number value child signal ends more poked) is (λ l i k. k) _ d.base.posts (tt, pokes_asked t.event.stamp old.believed poked)
+    served_asked Fell x number value child signal ends more poked is d = quiet (Served x Fell number value child signal ends more poked) is (λ l i k. k) _ d.base.posts (tt, pokes_asked t.event.stamp old.believed poked)
     served_asked Paused x number value child signal ends more poked is d = quiet (Served x Paused number value child signal ends more poked) is (λ l i k. k) _ d.base.posts (tt, pokes_asked t.event.stamp old.believed poked)
 
     asked_next : (what : Deed) → t.event.what ≡ what → Does O what n old t new → All_asked
@@ -231,7 +232,9 @@ module _ (O : Ops) (S : Sound O) where
     asked_next (Got p child ended kept) is d = quiet (Got p child ended kept) is (λ l i y. y) _ d.base.posts (got_asked p d.body d.keeps d.done)
     asked_next (Poked p true) is d = quiet (Poked p true) is (λ l i y. y) _ d.base.posts tt
     asked_next (Poked p false) is d = quiet (Poked p false) is (λ l i y. y) _ d.base.posts tt
-    asked_next (Begin p to line) is d = quiet (Begin p to line) is (λ l i y. y) _ d.base.posts (tt, tt)
+    asked_next (Begin p to (ForLine line)) is d = quiet (Begin p to (ForLine line)) is (λ l i y. y) _ d.base.posts (tt, tt)
+    asked_next (Begin p to (Chosen false other)) is d = quiet (Begin p to (Chosen false other)) is (λ l i y. y) _ d.base.posts (tt, (tt, tt))
+    asked_next (Begin p to (Chosen true other)) is d = quiet (Begin p to (Chosen true other)) is (λ l i y. y) _ d.base.posts (tt, tt)
     asked_next (Keep p to line) is d = quiet (Keep p to line) is (λ l i y. y) _ d.base.posts tt
     asked_next (Missed p to line) is d = quiet (Missed p to line) is (λ l i y. y) _ d.base.posts (kept_asked (Missed p to line) is (λ l i y. y) line d.hops (subst TakenAsked d.base.took taken_asked), tt)
     asked_next (Again p to place line) is d = again_asked p place line to is d
@@ -244,6 +247,8 @@ module _ (O : Ops) (S : Sound O) where
     asked_next (Refused p to why line) is (inl d) = quiet (Refused p to why line) is (λ l i y. y) _ d.base.posts (tt, tt)
     asked_next (Refused p to why line) is (inr d) = quiet (Refused p to why line) is (λ l i y. y) _ d.base.posts tt
     asked_next (Closed line) is d = quiet (Closed line) is (λ l i y. y) _ d.base.posts tt
+    asked_next (Gossips false other) is d = quiet (Gossips false other) is (λ l i y. y) _ d.base.posts (tt, tt)
+    asked_next (Gossips true other) is d = quiet (Gossips true other) is (λ l i y. y) _ d.base.posts tt
     asked_next (Strange p) is d = quiet (Strange p) is (λ l i y. y) _ d.base.posts tt
 
     -- the law, at the event
@@ -260,7 +265,7 @@ module _ (O : Ops) (S : Sound O) where
     news_at (Served p manner number value child signal ends more poked) d = tt
     news_at (Got p child ended kept) d = tt
     news_at (Poked p used) d = tt
-    news_at (Begin p to line) d = tt
+    news_at (Begin p to reason) d = tt
     news_at (Keep p to line) d = tt
     news_at (Missed p to line) d = tt
     news_at (Again p to place line) d = record { belief = old.believed p; believes = home_believes d.home p; place_is = d.place_is; told_then = d.hops; asked = subst TakenAsked d.base.took taken_asked; more = d.news; open_line = ln.result line ∙ ap settled (errand_tells O S line (ln.errands line) _ (was_under O (of_line O line) w t v goes (errand_way O line (ln.errands line)) _ (ln.under line) d.base.took (same_numbers line line refl)).0) }
@@ -272,6 +277,7 @@ module _ (O : Ops) (S : Sound O) where
     news_at (Told p at source hops line poked) d = tt
     news_at (Refused p to why line) d = tt
     news_at (Closed line) d = tt
+    news_at (Gossips heard other) d = tt
     news_at (Strange p) d = tt
 
     home_same : ((q : ℕ) → new.believed q ≡ old.believed q) → (q : ℕ) → (v.nodes 0).believed q ≡ (w.nodes 0).believed q
@@ -320,8 +326,7 @@ module _ (O : Ops) (S : Sound O) where
     served_same Did x number value signal ends more poked (inr d) q = d.believed q
     served_same Broke x number value signal ends more poked (inl d) q = d.believed q
     served_same Broke x number value signal ends more poked (inr d) q = d.believed q
-    served_same Fell x number value signal ends more poked (inl d) q = d.believed q
-    served_same Fell x number value signal ends more poked (inr d) q = d.believed q
+    served_same Fell x number value signal ends more poked d q = d.believed q
     served_same Paused x number value signal ends more poked d q = d.believed q
 
     asked_node : (g : Bool) (m : ℕ) (b : Body O) (k : Option Kept) (r : O.Request) → (facts_of O S (asked O g m b k r)).places ≡ Node m ∷ []
@@ -370,7 +375,7 @@ module _ (O : Ops) (S : Sound O) where
     believes_next (Got p child ended kept) d need q = same_belief q (home_same d.still.believed q)
     believes_next (Poked p true) d need q = same_belief q (home_same d.still.believed q)
     believes_next (Poked p false) d need q = same_belief q (home_same d.still.believed q)
-    believes_next (Begin p to line) d need q = same_belief q (home_same d.still.believed q)
+    believes_next (Begin p to reason) d need q = same_belief q (home_same d.still.believed q)
     believes_next (Keep p to line) d need q = same_belief q (home_same d.still.believed q)
     believes_next (Missed p to line) d need q = same_belief q (home_same d.still.believed q)
     believes_next (Again p to place line) d need q = same_belief q (home_same d.still.believed q)
@@ -383,6 +388,7 @@ module _ (O : Ops) (S : Sound O) where
     believes_next (Refused p to why line) (inl d) need q = same_belief q (home_same d.still.believed q)
     believes_next (Refused p to why line) (inr d) need q = same_belief q (home_same d.still.believed q)
     believes_next (Closed line) d need q = same_belief q (home_same d.still.believed q)
+    believes_next (Gossips heard other) d need q = same_belief q (home_same d.still.believed q)
     believes_next (Strange p) d need q = same_belief q (home_same d.still.believed q)
 
     news_next : News (t ∷ h) v

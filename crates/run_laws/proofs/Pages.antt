@@ -4,11 +4,12 @@ use Rattle.std.specs.Prelude.{ℤ}
 use Rattle.std.proofs.lemmas.Bool.Decides.{nat_tests}
 use Rattle.call_table.specs.declared.process.End.{End}
 use Rattle.run_tokens.specs.Ops.{Ops, Sound}
-use Rattle.run_tokens.specs.Deeds.{Manner, Did, Broke, Fell, Paused, Deed, Run, Kill, Bid, Unsent, Other, Steps, Sent, Heed, Held, Served, Got, Poked, Begin, Keep, Missed, Again, Allows, Denies, Depart, Stay, Land, Told, Refused, Closed, Strange, pid_of, child_of}
+use Rattle.run_tokens.specs.Deeds.{Manner, Did, Broke, Fell, Paused, Deed, Run, Kill, Bid, Unsent, Other, Steps, Sent, Heed, Held, Served, Got, Poked, Begin, Keep, Missed, Again, Allows, Denies, Depart, Stay, Land, Told, Refused, Closed, Gossips, Strange, pid_of, child_of}
 use Rattle.run_tokens.specs.Notes.{Done, Turn, Body, Kept, Context, Local}
 use Rattle.run_tokens.specs.Spots.{Spot, Nowhere, Runs, Calls, Holds, Pauses, Answered, Asks, Granted, Denied, Travels, InReply, Ended, site, kept_at, goal, reserved, slot_by}
 use Rattle.run_tokens.specs.Home.{give, enter, returned, after}
-use Rattle.run_tokens.specs.Does.{sum_below, context_pages, reserve_pages, slot_pages, InUse}
+use Rattle.run_tokens.specs.Ops.{sum_below}
+use Rattle.run_tokens.specs.Does.{context_pages, reserve_pages, slot_pages, InUse}
 use Rattle.run_tokens.specs.Cluster.{World, events}
 use Rattle.run_tokens.specs.Needs.{Needs, ServedSo, got_spot, asked, mark, keep_in, born_spot}
 use Rattle.run_tokens.proofs.Talk.{same_numbers, other_numbers}
@@ -30,7 +31,7 @@ sum_more (suc k) a f none =
     let y : sum_below (suc (k + a)) f ≡ sum_below a f = omega (arith, sum_more k a f none, none (k + a) (omega arith)) in
     x ∙ y
 
-sum_same : (a : ℕ) (f g : ℕ → ℕ) → ((p : ℕ) → f p ≡ g p) → sum_below a f ≡ sum_below a g
+pub sum_same : (a : ℕ) (f g : ℕ → ℕ) → ((p : ℕ) → f p ≡ g p) → sum_below a f ≡ sum_below a g
 sum_same zero f g e = refl
 sum_same (suc a) f g e = omega (arith, sum_same a f g e, e a)
 
@@ -67,7 +68,7 @@ allowed_rest (Served p manner number value child signal ends more poked) here q 
 allowed_rest (Got p child ended kept) here q x ne = refl
 allowed_rest (Poked p true) here q x ne = refl
 allowed_rest (Poked p false) here q x ne = refl
-allowed_rest (Begin p to line) here q x ne = refl
+allowed_rest (Begin p to reason) here q x ne = refl
 allowed_rest (Keep p to line) here q x ne = refl
 allowed_rest (Missed p to line) here q x ne = refl
 allowed_rest (Again p to place line) here q x ne = refl
@@ -79,6 +80,7 @@ allowed_rest (Land p source) here q x ne = both_off here p q 0 x ne
 allowed_rest (Told p at source hops line poked) here q x ne = refl
 allowed_rest (Refused p to why line) here q x ne = refl
 allowed_rest (Closed line) here q x ne = refl
+allowed_rest (Gossips heard other) here q x ne = refl
 allowed_rest (Strange p) here q x ne = refl
 
 module _ (O : Ops) (S : Sound O) where
@@ -176,7 +178,7 @@ module _ (O : Ops) (S : Sound O) where
     own_allowed (Got p child ended kept) d = none _ _ d.is.was d.is.now (pages_none (n == 0)) (got_reserve m d.is.body d.is.keeps d.is.done n)
     own_allowed (Poked p true) d = sym (ap (λ (k : Spot O). reserve_at k n) d.is.now ∙ mark_reserve s n)
     own_allowed (Poked p false) d = stay d.is.now
-    own_allowed (Begin p to line) d = none _ _ d.is.was d.is.now (pages_none (n == 0)) (pages_none (n == 0))
+    own_allowed (Begin p to reason) d = none _ _ d.is.was d.is.now (pages_none (n == 0)) (pages_none (n == 0))
     own_allowed (Keep p to line) d = sym (ap (λ (k : Spot O). reserve_at k n) d.is.now ∙ keep_reserve (record { to = to; line = line }) s n)
     own_allowed (Missed p to line) d = stay d.is.now
     own_allowed (Again p to place line) d = stay d.is.now
@@ -188,6 +190,7 @@ module _ (O : Ops) (S : Sound O) where
     own_allowed (Told p at source hops line poked) d = stay d.is.now
     own_allowed (Refused p to why line) d = stay d.is.now
     own_allowed (Closed line) d = stay d.is.now
+    own_allowed (Gossips heard other) d = stay d.is.now
     own_allowed (Strange p) d = absurd d
 
   -- a child comes with nothing reserved
@@ -210,7 +213,7 @@ module _ (O : Ops) (S : Sound O) where
       let g = got_brings O t.event.node (w.nodes t.event.node) (v.nodes t.event.node) (sp p) r p child ended kept need.is in
       ap (λ (k : Spot O). reserve_at k n) (stands.coupled.child p c (g.0 ∙ e)).0
   child_allowed w t v sp next stands st n (Poked p used) r need c e = absurd cc
-  child_allowed w t v sp next stands st n (Begin p to line) r need c e = absurd cc
+  child_allowed w t v sp next stands st n (Begin p to reason) r need c e = absurd cc
   child_allowed w t v sp next stands st n (Keep p to line) r need c e = absurd cc
   child_allowed w t v sp next stands st n (Missed p to line) r need c e = absurd cc
   child_allowed w t v sp next stands st n (Again p to place line) r need c e = absurd cc
@@ -222,6 +225,7 @@ module _ (O : Ops) (S : Sound O) where
   child_allowed w t v sp next stands st n (Told p at source hops line poked) r need c e = absurd cc
   child_allowed w t v sp next stands st n (Refused p to why line) r need c e = absurd cc
   child_allowed w t v sp next stands st n (Closed line) r need c e = absurd cc
+  child_allowed w t v sp next stands st n (Gossips heard other) r need c e = absurd cc
   child_allowed w t v sp next stands st n (Strange p) r need c e = absurd cc
 
   pub path_allowed : (h : List (Turn O)) (sp : ℕ → Spot O) (w : World O) → Path O S h sp w → (n q : ℕ) → allowed n q (events O h) ≡ reserve_at (sp q) n

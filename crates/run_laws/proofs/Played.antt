@@ -2,19 +2,19 @@
 use Rattle.std.proofs.Common.{◌≡◌, ◌≢◌, ℕ, ◌==◌, Bool, true, false, Some, List, [], ◌∷◌, refl, sym, ap, ◌∙◌, subst}
 use Rattle.std.specs.Prelude.{option_and_then}
 use Rattle.run_tokens.specs.Ops.{Ops, Sound, is_child}
-use Rattle.run_tokens.specs.Deeds.{Deed, Run, Kill, Bid, Unsent, Other, Steps, Sent, Heed, Held, Served, Got, Poked, Begin, Keep, Missed, Again, Allows, Denies, Depart, Stay, Land, Told, Refused, Closed, Strange, pid_of, child_of}
+use Rattle.run_tokens.specs.Deeds.{pid_of, child_of}
 use Rattle.run_tokens.specs.Notes.{Turn, Local}
 use Rattle.run_tokens.specs.Spots.{Spot}
 use Rattle.run_tokens.specs.Cluster.{World}
-use Rattle.run_tokens.specs.Needs.{brings, user_at, born_spot}
+use Rattle.run_tokens.specs.Needs.{brings, user_at, born_spot, alive, Right}
 use Rattle.run_laws.specs.Schedule.{told_by, told}
 use Rattle.run_laws.specs.Machine.{MachineState, empty}
 use Rattle.run_laws.proofs.Plays.{plays, replay}
 use Rattle.run_tokens.specs.Cluster.{events}
 use Rattle.run_tokens.proofs.Talk.{numbers_same, numbers_other}
 use Rattle.run_tokens.proofs.Coupling.{Part, Own, Child, Rest, part, at_own, at_child, at_rest}
-use Rattle.run_tokens.proofs.Stand.{Stands, Step, Path, child_apart}
-use Rattle.run_laws.proofs.Replay.{user_of, Right, alive, PlayedAt, played_at}
+use Rattle.run_tokens.proofs.Stand.{Stands, Step, Path, child_apart, lives_next}
+use Rattle.run_laws.proofs.Replay.{user_of, PlayedAt, played_at}
 
 module _ (O : Ops) (S : Sound O) where
   -- the machine m is what the cluster does together
@@ -22,21 +22,20 @@ module _ (O : Ops) (S : Sound O) where
     pub plays : replay O (events O h) ≡ Some m
     pub kernel : home.kernel ≡ m.kernel
     pub users : (p : ℕ) → m.users p ≡ user_of O S (sp p)
-    pub alive : (p : ℕ) → O.live m.kernel p ≡ alive O S (sp p)
-    pub right : (p : ℕ) → Right O S (sp p)
+    pub alive : (p : ℕ) → O.live m.kernel p ≡ alive O (sp p)
+    pub right : (p : ℕ) → Right O (sp p)
     pub replies : told (events O h) ≡ m.replies
 
   agrees_next : (h : List (Turn O)) (w : World O) (t : Turn O) (v : World O) (sp next : ℕ → Spot O) → Stands O S sp w → (st : Step O S sp w t next v) → (m : MachineState O) → Agrees h sp (w.nodes 0) m → PlayedAt O S t.event.what t.event.node (v.nodes 0).kernel (sp (pid_of t.event.what)) st.own m
-      → ((c : ℕ) → child_of t.event.what ≡ Some c → (Right O S (born_spot O t.event.what t.event.node (sp (pid_of t.event.what)) c)) × (true ≡ alive O S (born_spot O t.event.what t.event.node (sp (pid_of t.event.what)) c)))
       → (m2 : MachineState O) × Agrees (t ∷ h) next (v.nodes 0) m2
-  agrees_next h w t v sp next stands st m before one born = (
+  agrees_next h w t v sp next stands st m before one = (
     one.machine,
     record {
       plays = ap (option_and_then (plays O t.event.what)) before.plays ∙ one.plays_it;
       kernel = sym one.kernel;
       users = λ q. user_at_q q (part O t.event.what t.event.node sp st.own q);
-      alive = λ q. alive_at_q q (part O t.event.what t.event.node sp st.own q);
-      right = λ q. right_at_q q (part O t.event.what t.event.node sp st.own q);
+      alive = λ q. ap (λ (k : O.Kernel). O.live k q) one.kernel ∙ (lives_next O S w t v st.goes sp stands st.own st.needs next st.next_is q).0;
+      right = λ q. (lives_next O S w t v st.goes sp stands st.own st.needs next st.next_is q).1;
       replies = ap (told_by t.event.what) before.replies ∙ one.replies;
     },
   )
@@ -55,43 +54,6 @@ module _ (O : Ops) (S : Sound O) where
       user_at_q q (Child c h e ne) = one.child q (h ∙ ap (λ (k : ℕ). Some k) (sym e)) ∙ sym (ap (user_of O S) (is_child2 q c h e ne))
       user_at_q q (Rest ne h) = one.others q ne h ∙ (before.users q ∙ sym (ap (user_of O S) (is_rest q ne h)))
 
-      alive_at_q : (q : ℕ) → Part O t.event.what t.event.node sp st.own q → O.live one.machine.kernel q ≡ alive O S (next q)
-      alive_at_q q (Own e) = ap (O.live one.machine.kernel) e ∙ (one.alive_now ∙ sym (ap (alive O S) (is_own q e)))
-      alive_at_q q (Child c h e ne) = one.alive_child q (h ∙ ap (λ (k : ℕ). Some k) (sym e)) ∙ ((born q (h ∙ ap (λ (k : ℕ). Some k) (sym e))).1 ∙ sym (ap (alive O S) (is_child2 q c h e ne)))
-      alive_at_q q (Rest ne h) = one.alive_others q ne h ∙ (before.alive q ∙ sym (ap (alive O S) (is_rest q ne h)))
-
-      right_at_q : (q : ℕ) → Part O t.event.what t.event.node sp st.own q → Right O S (next q)
-      right_at_q q (Own e) = subst (Right O S) (sym (is_own q e)) one.right
-      right_at_q q (Child c h e ne) = subst (Right O S) (sym (is_child2 q c h e ne)) (born q (h ∙ ap (λ (k : ℕ). Some k) (sym e))).0
-      right_at_q q (Rest ne h) = subst (Right O S) (sym (is_rest q ne h)) (before.right q)
-
-  born_plain : (what : Deed) (n : ℕ) (s : Spot O) (c : ℕ) → child_of what ≡ Some c → (Right O S (born_spot O what n s c)) × (true ≡ alive O S (born_spot O what n s c))
-  born_plain (Run line i p) n s c e = absurd cc
-  born_plain (Kill line p g poked) n s c e = absurd cc
-  born_plain (Bid line p to) n s c e = absurd cc
-  born_plain (Unsent line p never) n s c e = absurd cc
-  born_plain (Other line input) n s c e = absurd cc
-  born_plain (Steps p k) n s c e = absurd cc
-  born_plain (Sent p k) n s c e = absurd cc
-  born_plain (Heed p) n s c e = absurd cc
-  born_plain (Held p k) n s c e = absurd cc
-  born_plain (Served p manner number value child signal ends more poked) n s c e = (tt, refl)
-  born_plain (Got p child ended kept) n s c e = (tt, refl)
-  born_plain (Poked p used) n s c e = absurd cc
-  born_plain (Begin p to line) n s c e = absurd cc
-  born_plain (Keep p to line) n s c e = absurd cc
-  born_plain (Missed p to line) n s c e = absurd cc
-  born_plain (Again p to place line) n s c e = absurd cc
-  born_plain (Allows p from need) n s c e = absurd cc
-  born_plain (Denies p from need free) n s c e = absurd cc
-  born_plain (Depart p to) n s c e = absurd cc
-  born_plain (Stay p to need free) n s c e = absurd cc
-  born_plain (Land p source) n s c e = absurd cc
-  born_plain (Told p at source hops line poked) n s c e = absurd cc
-  born_plain (Refused p to why line) n s c e = absurd cc
-  born_plain (Closed line) n s c e = absurd cc
-  born_plain (Strange p) n s c e = absurd cc
-
   -- every run plays
   pub record Played (h : List (Turn O)) (sp : ℕ → Spot O) (home : Local O) : Type 0 where
     pub machine : MachineState O
@@ -100,7 +62,7 @@ module _ (O : Ops) (S : Sound O) where
   played_next : (h : List (Turn O)) (w : World O) (t : Turn O) (v : World O) (sp next : ℕ → Spot O) → Stands O S sp w → Step O S sp w t next v → (m : MachineState O) → Agrees h sp (w.nodes 0) m → Played (t ∷ h) next (v.nodes 0)
   played_next h w t v sp next stands st m before =
       let one = played_at O S t.event.node (w.nodes t.event.node) (v.nodes t.event.node) (sp (pid_of t.event.what)) st.own m (v.nodes 0).kernel home same t.event.what st.needs (child_apart O S w t v st.goes sp stands st.own st.needs) kid (before.users (pid_of t.event.what)) (before.alive (pid_of t.event.what)) (before.right (pid_of t.event.what)) in
-      let all = agrees_next h w t v sp next stands st m before one (λ c e. born_plain t.event.what t.event.node (sp (pid_of t.event.what)) c e) in
+      let all = agrees_next h w t v sp next stands st m before one in
       record { machine = all.0; agrees = all.1 }
     where
       home : t.event.node ≡ 0 → ((w.nodes t.event.node).kernel ≡ m.kernel) × ((v.nodes t.event.node).kernel ≡ (v.nodes 0).kernel)
@@ -113,8 +75,8 @@ module _ (O : Ops) (S : Sound O) where
           go true e = let z = numbers_same t.event.node 0 e in ap (λ (k : ℕ). (v.nodes k).kernel) (sym z) ∙ (h ∙ (home z).0)
           go false e = ap (λ (k : Local O). k.kernel) (st.goes.elsewhere 0 (λ z. numbers_other t.event.node 0 e (sym z))) ∙ before.kernel
 
-      kid : (c : ℕ) → brings O (sp (pid_of t.event.what)) ≡ Some c → (m.users c ≡ Some (O.forked (user_at O (sp (pid_of t.event.what))) c)) × (O.live m.kernel c ≡ true)
-      kid c e = let x = (stands.coupled.child (pid_of t.event.what) c e).0 in (before.users c ∙ ap (user_of O S) x, before.alive c ∙ ap (alive O S) x)
+      kid : (c : ℕ) → brings O (sp (pid_of t.event.what)) ≡ Some c → m.users c ≡ Some (O.forked (user_at O (sp (pid_of t.event.what))) c)
+      kid c e = let x = (stands.coupled.child (pid_of t.event.what) c e).0 in before.users c ∙ ap (user_of O S) x
 
   pub path_played : (h : List (Turn O)) (sp : ℕ → Spot O) (w : World O) → Path O S h sp w → Played h sp (w.nodes 0)
   path_played [] sp w r = record {
@@ -123,8 +85,8 @@ module _ (O : Ops) (S : Sound O) where
       plays = refl;
       kernel = ((r.0.nodes 0).home refl).kernel;
       users = λ p. sym (ap (user_of O S) (r.1 p));
-      alive = λ p. S.live_empty p ∙ sym (ap (alive O S) (r.1 p));
-      right = λ p. subst (Right O S) (sym (r.1 p)) tt;
+      alive = λ p. S.live_empty p ∙ sym (ap (alive O) (r.1 p));
+      right = λ p. subst (Right O) (sym (r.1 p)) tt;
       replies = refl;
     };
   }

@@ -2,7 +2,7 @@
 use Rattle.std.proofs.Common.{◌≡◌, ℕ, cond, Option, Some, None, List, [], ◌∷◌, ◌++◌, refl, sym, ap, ◌∙◌, subst}
 use Rattle.std.specs.Prelude.{option_and_then}
 use Rattle.run_tokens.specs.Ops.{Ops, typed, has_text}
-use Rattle.run_tokens.specs.Deeds.{Input, Text, Finish, Nothing, Manner, Did, Broke, Fell, Paused, Deed, Run, Kill, Bid, Unsent, Other, Steps, Sent, Heed, Held, Served, Got, Poked, Begin, Keep, Missed, Again, Allows, Denies, Depart, Stay, Land, Told, Refused, Closed, Strange, Noted}
+use Rattle.run_tokens.specs.Deeds.{Input, Text, Finish, Nothing, Manner, Did, Broke, Fell, Paused, Deed, Run, Kill, Bid, Unsent, Other, Steps, Sent, Heed, Held, Served, Got, Poked, Begin, Keep, Missed, Again, Allows, Denies, Depart, Stay, Land, Told, Refused, Closed, Gossips, Strange, Noted}
 use Rattle.run_laws.specs.Machine.{Step, MachineState, empty, with_kernel, launched, raised, fed, stepped, did, broke, fell, took, machine_step, machine_steps}
 use Rattle.run_laws.specs.Schedule.{call_step, take_step, steps_of, schedule, machine_at, With}
 
@@ -36,7 +36,7 @@ module _ (O : Ops) where
   plays (Served p manner number value child signal ends more poked) m = option_and_then (took_where signal p) (served manner p m)
   plays (Got p child ended kept) m = Some m
   plays (Poked p used) m = Some m
-  plays (Begin p to line) m = Some m
+  plays (Begin p to reason) m = Some m
   plays (Keep p to line) m = Some m
   plays (Missed p to line) m = Some m
   plays (Again p to place line) m = Some m
@@ -48,6 +48,7 @@ module _ (O : Ops) where
   plays (Told p at source hops line poked) m = Some m
   plays (Refused p to why line) m = Some m
   plays (Closed line) m = Some m
+  plays (Gossips heard other) m = Some m
   plays (Strange p) m = Some m
 
   abbrev pub replay : List Noted → Option (MachineState O)
@@ -100,7 +101,7 @@ module _ (O : Ops) where
       steps_append (call_step manner p) (take_step signal p) m ∙ (ap (option_and_then (machine_steps O (take_step signal p))) (call_plays manner p m) ∙ then_same (machine_steps O (take_step signal p)) (took_where signal p) (take_plays signal p) (served manner p m))
   one_plays (Got p child ended kept) m = refl
   one_plays (Poked p used) m = refl
-  one_plays (Begin p to line) m = refl
+  one_plays (Begin p to reason) m = refl
   one_plays (Keep p to line) m = refl
   one_plays (Missed p to line) m = refl
   one_plays (Again p to place line) m = refl
@@ -112,6 +113,7 @@ module _ (O : Ops) where
   one_plays (Told p at source hops line poked) m = refl
   one_plays (Refused p to why line) m = refl
   one_plays (Closed line) m = refl
+  one_plays (Gossips heard other) m = refl
   one_plays (Strange p) m = refl
 
   -- event by event, or by the whole schedule

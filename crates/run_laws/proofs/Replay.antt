@@ -1,18 +1,22 @@
 -- Playing a run's own events on one node gives its kernel, its contexts and its replies.
-use Rattle.std.proofs.Common.{◌≡◌, ◌≢◌, ℕ, ◌+◌, ◌==◌, Bool, true, false, not, cond, Option, Some, None, List, ◌∷◌, refl, sym, ap, ◌∙◌, subst}
-use Rattle.std.specs.Prelude.{option_and_then, ℤ}
+use Rattle.std.proofs.Common.{arith, ◌≤◌, ◌≡◌, ◌≢◌, ℕ, ◌+◌, ◌==◌, Bool, true, false, cond, Option, Some, None, List, ◌∷◌, refl, sym, ap, ◌∙◌, subst}
+use Rattle.std.proofs.lemmas.Bool.Decides.{nat_tests}
+use Rattle.std.specs.Prelude.{nat_lt, option_and_then, ℤ}
 use Rattle.run_tokens.specs.Ops.{Ops, Sound, Acted, is_child, typed}
-use Rattle.run_tokens.specs.Deeds.{Manner, Did, Broke, Fell, Paused, Deed, Run, Kill, Bid, Unsent, Other, Steps, Sent, Heed, Held, Served, Got, Poked, Begin, Keep, Missed, Again, Allows, Denies, Depart, Stay, Land, Told, Refused, Closed, Strange, pid_of, child_of, Input, Text, Finish, Nothing}
+use Rattle.run_tokens.specs.Deeds.{Manner, Did, Broke, Fell, Paused, Deed, Run, Kill, Bid, Unsent, Other, Steps, Sent, Heed, Held, Served, Got, Poked, Begin, Keep, Missed, Again, Allows, Denies, Depart, Stay, Land, Told, Refused, Closed, Gossips, Strange, pid_of, child_of}
 use Rattle.run_tokens.specs.Notes.{Done, Body, Kept, Local}
 use Rattle.run_tokens.specs.Spots.{Spot, Nowhere, Runs, Calls, Holds, Pauses, Answered, Asks, Granted, Denied, Travels, InReply, Ended}
-use Rattle.run_tokens.specs.Home.{First, last, last_by, Acts, give, enter, returned, after, value_of}
-use Rattle.run_tokens.specs.Needs.{Needs, ServedSo, ServedCall, ServedPause, got_spot, asked, mark, keep_in, brings, user_at, born_spot}
+use Rattle.run_tokens.specs.Home.{First, last, Acts, give, enter, returned, after, value_of}
+use Rattle.run_tokens.specs.Needs.{Needs, ServedSo, ServedCall, ServedPause, got_spot, asked, mark, keep_in, brings, user_at, born_spot, alive, Right}
 use Rattle.run_laws.specs.Machine.{ReplyGiven, MachineState, with_user, with_kernel, with_reply, with_child}
 use Rattle.run_laws.specs.Schedule.{told_so, told_by}
 use Rattle.run_laws.proofs.Plays.{took_where, served, plays}
 use Rattle.run_tokens.proofs.Talk.{same_numbers, other_numbers}
 use Rattle.run_tokens.proofs.Process.{cond_here, cond_off}
 use Rattle.call_table.specs.declared.process.End.{End}
+
+some_steps : (k : ℕ) → 1 ≤ k → nat_lt 0 k ≡ true
+some_steps k e = grind (arith, nat_tests)
 
 module _ (O : Ops) (S : Sound O) where
   -- the user state that the machine has of a process at this spot
@@ -30,41 +34,6 @@ module _ (O : Ops) (S : Sound O) where
   user_of (InReply q u) = Some u
   user_of (Ended u) = Some u
 
-  -- what is under way for a process is what its user state asks
-  abbrev pub Right : Spot O → Type 0
-  Right Nowhere = Unit {0}
-  Right (Runs m b) = Unit {0}
-  Right (Calls m b k r) = O.asks b.user ≡ Some r
-  Right (Holds m b k r) = O.asks b.user ≡ Some r
-  Right (Pauses m b k r) = O.room b.user ≡ r
-  Right (Answered m b k d x y) = Unit {0}
-  Right (Asks m b to l need) = need ≡ O.pages b.user
-  Right (Granted m b to l need) = need ≡ O.pages b.user
-  Right (Denied m b to l need free) = need ≡ O.pages b.user
-  Right (Travels a c b l need) = need ≡ O.pages b.user
-  Right (InReply q u) = Unit {0}
-  Right (Ended u) = Unit {0}
-
-  -- the kernel has it live
-  abbrev pub alive : Spot O → Bool
-  alive Nowhere = false
-  alive (Runs m b) = true
-  alive (Calls m b k r) = true
-  alive (Holds m b k r) = true
-  alive (Pauses m b k r) = true
-  alive (Answered m b k d x y) = not d.ended
-  alive (Asks m b to l need) = true
-  alive (Granted m b to l need) = true
-  alive (Denied m b to l need free) = true
-  alive (Travels a c b l need) = true
-  alive (InReply q u) = true
-  alive (Ended u) = false
-
-  live_typed : (input : Input) (k : O.Kernel) (q : ℕ) → O.live (typed O input k) q ≡ O.live k q
-  live_typed (Text i) k q = S.live_feed k i q
-  live_typed Finish k q = S.live_finish k q
-  live_typed Nothing k q = refl
-
   pub user_put : (p : ℕ) (u : O.User) (m : MachineState O) → (with_user O p u m).users p ≡ Some u
   user_put p u m = cond_here p (Some u) (m.users p)
 
@@ -80,7 +49,7 @@ module _ (O : Ops) (S : Sound O) where
     pub child : (c : ℕ) → f.child ≡ Some c → machine.users c ≡ Some (O.forked u c)
     pub others : (q : ℕ) → q ≢ p → is_child f.child q ≡ false → machine.users q ≡ m.users q
     pub replies : told_so p (Some (O.number r)) (value_of O f.answer) m.replies ≡ machine.replies
-    pub room : (s : ℕ) → O.lowest f.kernel p ≡ Some s → O.room (give O u f.answer) ≡ O.room_of r
+    pub room : (s : ℕ) → O.lowest f.kernel p ≡ Some s → O.take f.kernel p (O.room (give O u f.answer)) ≡ O.take f.kernel p (O.room_of r)
 
   some_acted : (k : O.Kernel) (p : ℕ) (r : O.Request) (d : Acted O.Kernel O.Answer) (m : MachineState O) (u : O.User) → O.serve k p r ≡ Some d → (c : Option ℕ) → ((x : ℕ) → c ≡ Some x → x ≢ p)
       → ((with_child O u c (with_user O p (O.given u d.answer) (with_reply O p r d.answer (with_kernel O d.kernel m)))).users p ≡ Some (O.given u d.answer))
@@ -124,7 +93,7 @@ module _ (O : Ops) (S : Sound O) where
         child = λ c e. absurd cc;
         others = λ q ne h. cond_off q p _ _ ne;
         replies = refl;
-        room = λ s e. S.room_broken u r asks;
+        room = λ x e. S.room_broken m.kernel p s u r live low asks some blocked;
       })
   first_plays Fell p u r f m live user asks apart (none, is) =
       let number : (O.number r == 0) ≡ true = same_numbers (O.number r) 0 none in
@@ -149,7 +118,7 @@ module _ (O : Ops) (S : Sound O) where
     others : (q : ℕ) → q ≢ p → machine.users q ≡ m.users q
     replies : machine.replies ≡ m.replies
 
-  last_plays : (p : ℕ) (room : Bool) (u : O.User) (m : MachineState O) → m.users p ≡ Some u → ((s : ℕ) → O.lowest m.kernel p ≡ Some s → O.room u ≡ room) → LastPlayed m.kernel p room u m
+  last_plays : (p : ℕ) (room : Bool) (u : O.User) (m : MachineState O) → m.users p ≡ Some u → ((s : ℕ) → O.lowest m.kernel p ≡ Some s → O.take m.kernel p (O.room u) ≡ O.take m.kernel p room) → LastPlayed m.kernel p room u m
   last_plays p room u m user rooms = go (O.lowest m.kernel p) refl
     where
       none : O.lowest m.kernel p ≡ None → LastPlayed m.kernel p room u m
@@ -164,7 +133,7 @@ module _ (O : Ops) (S : Sound O) where
 
       some : (s : ℕ) → O.lowest m.kernel p ≡ Some s → LastPlayed m.kernel p room u m
       some s e =
-          let same : O.room u ≡ room = rooms s e in
+          let same : O.take m.kernel p (O.room u) ≡ O.take m.kernel p room = rooms s e in
           record {
             machine = with_user O p (O.entered u (O.take m.kernel p room).taken) (with_kernel O (O.take m.kernel p room).kernel m);
             plays_it = rw e (rw (e, user, same) refl);
@@ -178,30 +147,6 @@ module _ (O : Ops) (S : Sound O) where
       go None e = none e
       go (Some s) e = some s e
 
-  -- liveness after the call and the signal
-  live_last : (k : O.Kernel) (p : ℕ) (room : Bool) (q : ℕ) → q ≢ p → O.live (last O k p room).kernel q ≡ O.live k q
-  live_last k p room q ne = go (O.lowest k p)
-    where
-      go : (o : Option ℕ) → O.live (last_by O o k p room).kernel q ≡ O.live k q
-      go None = refl
-      go (Some s) = S.live_take k p room q ne
-
-  live_acts : (m : Manner) (k : O.Kernel) (p : ℕ) (r : O.Request) (f : First O) (q : ℕ) → Acts O m k p r f → q ≢ p → is_child f.child q ≡ false → O.live f.kernel q ≡ O.live k q
-  live_acts Did k p r f q (d, served, some, is) ne h = ap (λ (x : First O). O.live x.kernel q) is ∙ S.live_serve k p r d q served ne (ap (λ (x : First O). is_child x.child q) (sym is) ∙ h)
-  live_acts Broke k p r f q (s, low, blocked, some, is) ne h = ap (λ (x : First O). O.live x.kernel q) is
-  live_acts Fell k p r f q (none, is) ne h = ap (λ (x : First O). O.live x.kernel q) is ∙ S.live_fall k p r q ne
-  live_acts Paused k p r f q a ne h = absurd a
-
-  live_born : (m : Manner) (k : O.Kernel) (p : ℕ) (r : O.Request) (f : First O) (c : ℕ) → Acts O m k p r f → f.child ≡ Some c → O.live f.kernel c ≡ true
-  live_born Did k p r f c (d, served, some, is) e = ap (λ (x : First O). O.live x.kernel c) is ∙ S.live_child k p r d c served (ap (λ (x : First O). x.child) (sym is) ∙ e)
-  live_born Broke k p r f c (s, low, blocked, some, is) e = let z : None ≡ Some c = ap (λ (x : First O). x.child) (sym is) ∙ e in absurd cc
-  live_born Fell k p r f c (none, is) e = let z : None ≡ Some c = ap (λ (x : First O). x.child) (sym is) ∙ e in absurd cc
-  live_born Paused k p r f c a e = absurd a
-
-  twice : (b : Bool) → b ≡ not (not b)
-  twice true = refl
-  twice false = refl
-
   -- one event played: the machine after it, and what it has of the process, its child and all others
   pub record PlayedAt (what : Deed) (n : ℕ) (after_kernel : O.Kernel) (s r : Spot O) (m : MachineState O) : Type 0 where
     pub machine : MachineState O
@@ -211,86 +156,78 @@ module _ (O : Ops) (S : Sound O) where
     pub child : (c : ℕ) → child_of what ≡ Some c → machine.users c ≡ user_of (born_spot O what n s c)
     pub others : (q : ℕ) → q ≢ pid_of what → is_child (child_of what) q ≡ false → machine.users q ≡ m.users q
     pub replies : told_by what m.replies ≡ machine.replies
-    pub right : Right r
-    pub alive_now : O.live machine.kernel (pid_of what) ≡ alive r
-    pub alive_child : (c : ℕ) → child_of what ≡ Some c → O.live machine.kernel c ≡ true
-    pub alive_others : (q : ℕ) → q ≢ pid_of what → is_child (child_of what) q ≡ false → O.live machine.kernel q ≡ O.live m.kernel q
 
-  mark_user : (s : Spot O) → (user_of (mark O s) ≡ user_of s) × (alive (mark O s) ≡ alive s) × (Right s → Right (mark O s))
-  mark_user Nowhere = (refl, refl, λ x. x)
-  mark_user (Runs m b) = (refl, refl, λ x. x)
-  mark_user (Calls m b k r) = (refl, refl, λ x. x)
-  mark_user (Holds m b k r) = (refl, refl, λ x. x)
-  mark_user (Pauses m b k r) = (refl, refl, λ x. x)
-  mark_user (Answered m b k d x y) = (refl, refl, λ x. x)
-  mark_user (Asks m b to l need) = (refl, refl, λ x. x)
-  mark_user (Granted m b to l need) = (refl, refl, λ x. x)
-  mark_user (Denied m b to l need free) = (refl, refl, λ x. x)
-  mark_user (Travels a c b l need) = (refl, refl, λ x. x)
-  mark_user (InReply q u) = (refl, refl, λ x. x)
-  mark_user (Ended u) = (refl, refl, λ x. x)
+  mark_user : (s : Spot O) → user_of (mark O s) ≡ user_of s
+  mark_user Nowhere = refl
+  mark_user (Runs m b) = refl
+  mark_user (Calls m b k r) = refl
+  mark_user (Holds m b k r) = refl
+  mark_user (Pauses m b k r) = refl
+  mark_user (Answered m b k d x y) = refl
+  mark_user (Asks m b to l need) = refl
+  mark_user (Granted m b to l need) = refl
+  mark_user (Denied m b to l need free) = refl
+  mark_user (Travels a c b l need) = refl
+  mark_user (InReply q u) = refl
+  mark_user (Ended u) = refl
 
-  keep_user : (x : Kept) (s : Spot O) → (user_of (keep_in O x s) ≡ user_of s) × (alive (keep_in O x s) ≡ alive s) × (Right s → Right (keep_in O x s))
-  keep_user x Nowhere = (refl, refl, λ x. x)
-  keep_user x (Runs m b) = (refl, refl, λ x. x)
-  keep_user x (Calls m b k r) = (refl, refl, λ x. x)
-  keep_user x (Holds m b k r) = (refl, refl, λ x. x)
-  keep_user x (Pauses m b k r) = (refl, refl, λ x. x)
-  keep_user x (Answered m b k d p y) = (refl, refl, λ x. x)
-  keep_user x (Asks m b to l need) = (refl, refl, λ x. x)
-  keep_user x (Granted m b to l need) = (refl, refl, λ x. x)
-  keep_user x (Denied m b to l need free) = (refl, refl, λ x. x)
-  keep_user x (Travels a c b l need) = (refl, refl, λ x. x)
-  keep_user x (InReply q u) = (refl, refl, λ x. x)
-  keep_user x (Ended u) = (refl, refl, λ x. x)
+  keep_user : (x : Kept) (s : Spot O) → user_of (keep_in O x s) ≡ user_of s
+  keep_user x Nowhere = refl
+  keep_user x (Runs m b) = refl
+  keep_user x (Calls m b k r) = refl
+  keep_user x (Holds m b k r) = refl
+  keep_user x (Pauses m b k r) = refl
+  keep_user x (Answered m b k d p y) = refl
+  keep_user x (Asks m b to l need) = refl
+  keep_user x (Granted m b to l need) = refl
+  keep_user x (Denied m b to l need free) = refl
+  keep_user x (Travels a c b l need) = refl
+  keep_user x (InReply q u) = refl
+  keep_user x (Ended u) = refl
 
-  got_user : (n : ℕ) (b : Body O) (k : Option Kept) (d : Done O) → (user_of (got_spot O n b k d) ≡ Some (after O b.user d)) × (alive (got_spot O n b k d) ≡ not d.ended) × Right (got_spot O n b k d)
+  got_user : (n : ℕ) (b : Body O) (k : Option Kept) (d : Done O) → user_of (got_spot O n b k d) ≡ Some (after O b.user d)
   got_user n b None d = go d.ended
     where
-      go : (e : Bool) → (user_of (cond e (Ended (after O b.user d)) (Runs n (returned O b d))) ≡ Some (after O b.user d)) × (alive (cond e (Ended (after O b.user d)) (Runs n (returned O b d))) ≡ not e) × Right (cond e (Ended (after O b.user d)) (Runs n (returned O b d)))
-      go true = (refl, refl, tt)
-      go false = (refl, refl, tt)
+      go : (e : Bool) → user_of (cond e (Ended (after O b.user d)) (Runs n (returned O b d))) ≡ Some (after O b.user d)
+      go true = refl
+      go false = refl
   got_user n b (Some k) d = go d.ended
     where
-      go : (e : Bool) → (user_of (cond e (Ended (after O b.user d)) (Asks n (returned O b d) k.to (Some k.line) (O.pages (after O b.user d)))) ≡ Some (after O b.user d)) × (alive (cond e (Ended (after O b.user d)) (Asks n (returned O b d) k.to (Some k.line) (O.pages (after O b.user d)))) ≡ not e) × Right (cond e (Ended (after O b.user d)) (Asks n (returned O b d) k.to (Some k.line) (O.pages (after O b.user d))))
-      go true = (refl, refl, tt)
-      go false = (refl, refl, refl)
+      go : (e : Bool) → user_of (cond e (Ended (after O b.user d)) (Asks n (returned O b d) k.to (Some k.line) (O.pages (after O b.user d)))) ≡ Some (after O b.user d)
+      go true = refl
+      go false = refl
 
-  asked_at : (h : Bool) (m : ℕ) (b : Body O) (k : Option Kept) (x : O.Request) → (user_of (asked O h m b k x) ≡ Some b.user) × (alive (asked O h m b k x) ≡ true) × (user_at O (asked O h m b k x) ≡ b.user) × (Right (asked O h m b k x) → O.asks b.user ≡ Some x)
+  asked_at : (h : Bool) (m : ℕ) (b : Body O) (k : Option Kept) (x : O.Request) → (user_of (asked O h m b k x) ≡ Some b.user) × (alive O (asked O h m b k x) ≡ true) × (user_at O (asked O h m b k x) ≡ b.user) × (Right O (asked O h m b k x) → O.asks b.user ≡ Some x)
   asked_at true m b k x = (refl, refl, refl, λ z. z)
   asked_at false m b k x = (refl, refl, refl, λ z. z)
 
   module _ (n : ℕ) (old new : Local O) (s r : Spot O) (m : MachineState O) (k2 : O.Kernel) (home : n ≡ 0 → (old.kernel ≡ m.kernel) × (new.kernel ≡ k2)) (same : new.kernel ≡ old.kernel → k2 ≡ m.kernel) where
     -- an event that the machine does not see
-    idle : (what : Deed) → ((x : MachineState O) → plays O what x ≡ Some x) → ((rs : List ReplyGiven) → told_by what rs ≡ rs) → new.kernel ≡ old.kernel → m.users (pid_of what) ≡ user_of s → O.live m.kernel (pid_of what) ≡ alive s → user_of r ≡ user_of s → alive r ≡ alive s → Right r
-        → ((c : ℕ) → child_of what ≡ Some c → (m.users c ≡ user_of (born_spot O what n s c)) × (O.live m.kernel c ≡ true)) → PlayedAt what n k2 s r m
-    idle what still silent k user live e f right child = record {
+    idle : (what : Deed) → ((x : MachineState O) → plays O what x ≡ Some x) → ((rs : List ReplyGiven) → told_by what rs ≡ rs) → new.kernel ≡ old.kernel → m.users (pid_of what) ≡ user_of s → user_of r ≡ user_of s
+        → ((c : ℕ) → child_of what ≡ Some c → m.users c ≡ user_of (born_spot O what n s c)) → PlayedAt what n k2 s r m
+    idle what still silent k user e child = record {
       machine = m;
       plays_it = still m;
       kernel = sym (same k);
       user = user ∙ sym e;
-      child = λ c h. (child c h).0;
+      child = child;
       others = λ q ne h. refl;
       replies = silent m.replies;
-      right = right;
-      alive_now = live ∙ sym f;
-      alive_child = λ c h. (child c h).1;
-      alive_others = λ q ne h. refl;
     }
 
     -- a served call
     served_played : (manner : Manner) (p : ℕ) (number : Option ℕ) (value : Option ℤ) (child signal : Option ℕ) (ends : Option End) (more : Bool) (poked : List ℕ) → ServedCall O n p manner number value child signal ends more poked old new s r → (plays O (Served p manner number value child signal ends more poked) m ≡ option_and_then (took_where O signal p) (served O manner p m))
-        → ((c : ℕ) → child ≡ Some c → c ≢ p) → m.users p ≡ user_of s → O.live m.kernel p ≡ alive s → Right s → PlayedAt (Served p manner number value child signal ends more poked) n k2 s r m
+        → ((c : ℕ) → child ≡ Some c → c ≢ p) → m.users p ≡ user_of s → O.live m.kernel p ≡ alive O s → Right O s → PlayedAt (Served p manner number value child signal ends more poked) n k2 s r m
     served_played manner p number value child signal ends more poked d is apart user live right =
         let h = home d.home in
         let a = asked_at d.held d.from d.body d.kept d.request in
         let u : m.users p ≡ Some d.body.user = user ∙ (ap user_of d.was ∙ a.0) in
-        let l : O.live m.kernel p ≡ true = live ∙ (ap alive d.was ∙ a.1) in
-        let asks : O.asks d.body.user ≡ Some d.request = a.3 (subst Right d.was right) in
+        let l : O.live m.kernel p ≡ true = live ∙ (ap (alive O) d.was ∙ a.1) in
+        let asks : O.asks d.body.user ≡ Some d.request = a.3 (subst (Right O) d.was right) in
         let acts : Acts O manner m.kernel p d.request d.first = subst (λ (k : O.Kernel). Acts O manner k p d.request d.first) h.0 d.acts in
         let first = first_plays manner p d.body.user d.request d.first m l u asks (λ c e. apart c (d.answers.child_is ∙ e)) acts in
         let room = O.room_of d.request in
-        let then2 = last_plays p room (give O d.body.user d.first.answer) first.machine first.user (λ g e. first.room g (ap (λ (k : O.Kernel). O.lowest k p) (sym first.kernel) ∙ e)) in
+        let then2 = last_plays p room (give O d.body.user d.first.answer) first.machine first.user (λ g e. subst (λ (k : O.Kernel). O.take k p (O.room (give O d.body.user d.first.answer)) ≡ O.take k p room) (sym first.kernel) (first.room g (ap (λ (k : O.Kernel). O.lowest k p) (sym first.kernel) ∙ e))) in
         let sig : signal ≡ (last O first.machine.kernel p room).signal = d.answers.signal_is ∙ ap (λ (k : O.Kernel). (last O k p room).signal) (sym first.kernel) in
         let kernel : then2.machine.kernel ≡ (last O d.first.kernel p room).kernel = then2.kernel ∙ ap (λ (k : O.Kernel). (last O k p room).kernel) first.kernel in
         let kernel2 : then2.machine.kernel ≡ new.kernel = kernel ∙ sym d.answers.kernel in
@@ -302,18 +239,14 @@ module _ (O : Ops) (S : Sound O) where
           child = λ c e. then2.others c (apart c e) ∙ (first.child c (sym d.answers.child_is ∙ e) ∙ ap (λ (x : O.User). Some (O.forked x c)) (sym (ap (user_at O) d.was ∙ a.2)));
           others = λ q ne e. then2.others q ne ∙ first.others q ne (ap (λ (o : Option ℕ). is_child o q) (sym d.answers.child_is) ∙ e);
           replies = (λ i. told_so p (d.number_is i) (d.answers.value_is i) m.replies) ∙ (first.replies ∙ sym then2.replies);
-          right = subst Right (sym d.now) tt;
-          alive_now = ap (λ (k : O.Kernel). O.live k p) kernel ∙ (twice (O.live (last O d.first.kernel p room).kernel p) ∙ sym (ap alive d.now));
-          alive_child = λ c e. ap (λ (k : O.Kernel). O.live k c) kernel ∙ (live_last d.first.kernel p room c (apart c e) ∙ live_born manner m.kernel p d.request d.first c acts (sym d.answers.child_is ∙ e));
-          alive_others = λ q ne e. ap (λ (k : O.Kernel). O.live k q) kernel ∙ (live_last d.first.kernel p room q ne ∙ live_acts manner m.kernel p d.request d.first q acts ne (ap (λ (o : Option ℕ). is_child o q) (sym d.answers.child_is) ∙ e));
         }
 
-    paused_played : (p : ℕ) (number : Option ℕ) (value : Option ℤ) (child signal : Option ℕ) (ends : Option End) (more : Bool) (poked : List ℕ) → ServedPause O n p number value child signal ends more poked old new s r → m.users p ≡ user_of s → Right s → PlayedAt (Served p Paused number value child signal ends more poked) n k2 s r m
+    paused_played : (p : ℕ) (number : Option ℕ) (value : Option ℤ) (child signal : Option ℕ) (ends : Option End) (more : Bool) (poked : List ℕ) → ServedPause O n p number value child signal ends more poked old new s r → m.users p ≡ user_of s → Right O s → PlayedAt (Served p Paused number value child signal ends more poked) n k2 s r m
     paused_played p number value child signal ends more poked d user right =
         let h = home d.home in
         let u : m.users p ≡ Some d.body.user = user ∙ ap user_of d.was in
-        let room : O.room d.body.user ≡ d.room = subst Right d.was right in
-        let then2 = last_plays p d.room d.body.user m u (λ g e. room) in
+        let room : O.room d.body.user ≡ d.room = subst (Right O) d.was right in
+        let then2 = last_plays p d.room d.body.user m u (λ g e. ap (O.take m.kernel p) room) in
         let sig : signal ≡ (last O m.kernel p d.room).signal = d.answers.signal_is ∙ ap (λ (k : O.Kernel). (last O k p d.room).signal) h.0 in
         let kernel2 : then2.machine.kernel ≡ new.kernel = then2.kernel ∙ (ap (λ (k : O.Kernel). (last O k p d.room).kernel) (sym h.0) ∙ sym d.answers.kernel) in
         record {
@@ -324,10 +257,6 @@ module _ (O : Ops) (S : Sound O) where
           child = λ c e. (let z : None ≡ Some c = sym d.answers.child_is ∙ e in absurd cc);
           others = λ q ne e. then2.others q ne;
           replies = (λ i. told_so p (d.number_is i) value m.replies) ∙ sym then2.replies;
-          right = subst Right (sym d.now) tt;
-          alive_now = ap (λ (k : O.Kernel). O.live k p) (then2.kernel ∙ ap (λ (k : O.Kernel). (last O k p d.room).kernel) (sym h.0)) ∙ (twice (O.live (last O old.kernel p d.room).kernel p) ∙ sym (ap alive d.now));
-          alive_child = λ c e. (let z : None ≡ Some c = sym d.answers.child_is ∙ e in absurd cc);
-          alive_others = λ q ne e. ap (λ (k : O.Kernel). O.live k q) then2.kernel ∙ live_last m.kernel p d.room q ne;
         }
 
     not_true : (b : Bool) → b ≡ true → true ≡ b
@@ -337,15 +266,15 @@ module _ (O : Ops) (S : Sound O) where
     none_child c A e = absurd cc
 
     so_played : (manner : Manner) (p : ℕ) (number : Option ℕ) (value : Option ℤ) (child signal : Option ℕ) (ends : Option End) (more : Bool) (poked : List ℕ) → ServedSo O manner n p number value child signal ends more poked old new s r → ((c : ℕ) → child ≡ Some c → c ≢ p)
-        → m.users p ≡ user_of s → O.live m.kernel p ≡ alive s → Right s → PlayedAt (Served p manner number value child signal ends more poked) n k2 s r m
+        → m.users p ≡ user_of s → O.live m.kernel p ≡ alive O s → Right O s → PlayedAt (Served p manner number value child signal ends more poked) n k2 s r m
     so_played Did p number value child signal ends more poked d apart user live right = served_played Did p number value child signal ends more poked d refl apart user live right
     so_played Broke p number value child signal ends more poked d apart user live right = served_played Broke p number value child signal ends more poked d refl apart user live right
     so_played Fell p number value child signal ends more poked d apart user live right = served_played Fell p number value child signal ends more poked d refl apart user live right
     so_played Paused p number value child signal ends more poked d apart user live right = paused_played p number value child signal ends more poked d user right
 
     -- an event that changes the kernel alone
-    kernel_only : (what : Deed) (k : O.Kernel) → plays O what m ≡ Some (with_kernel O k m) → ((rs : List ReplyGiven) → told_by what rs ≡ rs) → ((c : ℕ) → child_of what ≡ Some c → ⊥) → k ≡ k2 → ((q : ℕ) → O.live k q ≡ O.live m.kernel q) → m.users (pid_of what) ≡ user_of s → O.live m.kernel (pid_of what) ≡ alive s → r ≡ s → Right s → PlayedAt what n k2 s r m
-    kernel_only what k is silent none e lives user live now right = record {
+    kernel_only : (what : Deed) (k : O.Kernel) → plays O what m ≡ Some (with_kernel O k m) → ((rs : List ReplyGiven) → told_by what rs ≡ rs) → ((c : ℕ) → child_of what ≡ Some c → ⊥) → k ≡ k2 → m.users (pid_of what) ≡ user_of s → r ≡ s → PlayedAt what n k2 s r m
+    kernel_only what k is silent none e user now = record {
       machine = with_kernel O k m;
       plays_it = is;
       kernel = e;
@@ -353,21 +282,17 @@ module _ (O : Ops) (S : Sound O) where
       child = λ c h. absurd (none c h);
       others = λ q ne h. refl;
       replies = silent m.replies;
-      right = subst Right (sym now) right;
-      alive_now = lives (pid_of what) ∙ (live ∙ sym (ap alive now));
-      alive_child = λ c h. absurd (none c h);
-      alive_others = λ q ne h. lives q;
     }
 
-    ran : (what : Deed) → ((x : MachineState O) → plays O what x ≡ Some x) → ((rs : List ReplyGiven) → told_by what rs ≡ rs) → child_of what ≡ None → new.kernel ≡ old.kernel → m.users (pid_of what) ≡ user_of s → O.live m.kernel (pid_of what) ≡ alive s → (a b : Spot O) → s ≡ a → r ≡ b → user_of b ≡ user_of a → alive b ≡ alive a → Right b → PlayedAt what n k2 s r m
-    ran what still silent none k user live a b was now e f right =
-        idle what still silent k user live (ap user_of now ∙ (e ∙ sym (ap user_of was))) (ap alive now ∙ (f ∙ sym (ap alive was))) (subst Right (sym now) right) (λ c h. none_child c _ (sym none ∙ h))
+    ran : (what : Deed) → ((x : MachineState O) → plays O what x ≡ Some x) → ((rs : List ReplyGiven) → told_by what rs ≡ rs) → child_of what ≡ None → new.kernel ≡ old.kernel → m.users (pid_of what) ≡ user_of s → (a b : Spot O) → s ≡ a → r ≡ b → user_of b ≡ user_of a → PlayedAt what n k2 s r m
+    ran what still silent none k user a b was now e =
+        idle what still silent k user (ap user_of now ∙ (e ∙ sym (ap user_of was))) (λ c h. none_child c _ (sym none ∙ h))
 
-    loose : (what : Deed) → ((x : MachineState O) → plays O what x ≡ Some x) → ((rs : List ReplyGiven) → told_by what rs ≡ rs) → child_of what ≡ None → new.kernel ≡ old.kernel → m.users (pid_of what) ≡ user_of s → O.live m.kernel (pid_of what) ≡ alive s → r ≡ s → Right s → PlayedAt what n k2 s r m
-    loose what still silent none k user live now right = ran what still silent none k user live s s refl now refl refl right
+    loose : (what : Deed) → ((x : MachineState O) → plays O what x ≡ Some x) → ((rs : List ReplyGiven) → told_by what rs ≡ rs) → child_of what ≡ None → new.kernel ≡ old.kernel → m.users (pid_of what) ≡ user_of s → r ≡ s → PlayedAt what n k2 s r m
+    loose what still silent none k user now = ran what still silent none k user s s refl now refl
 
-    pub played_at : (what : Deed) → Needs O what n old new s r → ((c : ℕ) → child_of what ≡ Some c → c ≢ pid_of what) → ((c : ℕ) → brings O s ≡ Some c → (m.users c ≡ Some (O.forked (user_at O s) c)) × (O.live m.kernel c ≡ true))
-        → m.users (pid_of what) ≡ user_of s → O.live m.kernel (pid_of what) ≡ alive s → Right s → PlayedAt what n k2 s r m
+    pub played_at : (what : Deed) → Needs O what n old new s r → ((c : ℕ) → child_of what ≡ Some c → c ≢ pid_of what) → ((c : ℕ) → brings O s ≡ Some c → m.users c ≡ Some (O.forked (user_at O s) c))
+        → m.users (pid_of what) ≡ user_of s → O.live m.kernel (pid_of what) ≡ alive O s → Right O s → PlayedAt what n k2 s r m
     played_at (Run line i p) d apart kid user live right =
         let h = home d.home in
         let launch : O.launch m.kernel ≡ Some new.kernel = ap O.launch (sym h.0) ∙ d.launched in
@@ -380,53 +305,46 @@ module _ (O : Ops) (S : Sound O) where
           child = λ c e. absurd cc;
           others = λ q ne e. cond_off q (O.count m.kernel + 1) _ _ (λ z. ne (z ∙ sym next));
           replies = refl;
-          right = subst Right (sym d.now) tt;
-          alive_now = ap (O.live new.kernel) next ∙ (S.live_new m.kernel new.kernel launch ∙ sym (ap alive d.now));
-          alive_child = λ c e. absurd cc;
-          alive_others = λ q ne e. S.live_launch m.kernel new.kernel q launch (λ z. ne (z ∙ sym next));
         }
-    played_at (Kill line p g poked) d apart kid user live right = kernel_only (Kill line p g poked) (O.raise m.kernel p g) (rw d.signal_is refl) (λ rs. refl) (λ c e. cc) (ap (λ (k : O.Kernel). O.raise k p g) (sym (home d.home).0) ∙ (sym d.kernel ∙ (home d.home).1)) (λ q. S.live_raise m.kernel p g q) user live d.now right
-    played_at (Bid line p to) d apart kid user live right = loose (Bid line p to) (λ x. refl) (λ rs. refl) refl d.kernel user live d.is.now right
-    played_at (Unsent line p never) d apart kid user live right = loose (Unsent line p never) (λ x. refl) (λ rs. refl) refl d.kernel user live d.is.now right
-    played_at (Other line input) d apart kid user live right = kernel_only (Other line input) (typed O input m.kernel) (rw d.text refl) (λ rs. refl) (λ c e. cc) (ap (λ (k : O.Kernel). typed O input k) (sym (home d.home).0) ∙ (sym d.kernel ∙ (home d.home).1)) (λ q. live_typed input m.kernel q) user live d.now right
+    played_at (Kill line p g poked) d apart kid user live right = kernel_only (Kill line p g poked) (O.raise m.kernel p g) (rw d.signal_is refl) (λ rs. refl) (λ c e. cc) (ap (λ (k : O.Kernel). O.raise k p g) (sym (home d.home).0) ∙ (sym d.kernel ∙ (home d.home).1)) user d.now
+    played_at (Bid line p to) d apart kid user live right = loose (Bid line p to) (λ x. refl) (λ rs. refl) refl d.kernel user d.is.now
+    played_at (Unsent line p never) d apart kid user live right = loose (Unsent line p never) (λ x. refl) (λ rs. refl) refl d.kernel user d.is.now
+    played_at (Other line input) d apart kid user live right = kernel_only (Other line input) (typed O input m.kernel) (rw d.text refl) (λ rs. refl) (λ c e. cc) (ap (λ (k : O.Kernel). typed O input k) (sym (home d.home).0) ∙ (sym d.kernel ∙ (home d.home).1)) user d.now
     played_at (Steps p x) d apart kid user live right =
         let u : m.users p ≡ Some d.is.body.user = user ∙ ap user_of d.is.was in
-        let l : O.live m.kernel p ≡ true = live ∙ ap alive d.is.was in
+        let l : O.live m.kernel p ≡ true = live ∙ ap (alive O) d.is.was in
         record {
           machine = with_user O p d.is.user m;
-          plays_it = rw (l, u, d.is.went) refl;
+          plays_it = rw (some_steps x d.is.bounds.least, l, u, d.is.went) refl;
           kernel = sym (same d.kernel);
           user = cond_here p _ _ ∙ sym (ap user_of d.is.now);
           child = λ c e. absurd cc;
           others = λ q ne e. cond_off q p _ _ ne;
           replies = refl;
-          right = subst Right (sym d.is.now) tt;
-          alive_now = l ∙ sym (ap alive d.is.now);
-          alive_child = λ c e. absurd cc;
-          alive_others = λ q ne e. refl;
         }
-    played_at (Sent p x) d apart kid user live right = ran (Sent p x) (λ x. refl) (λ rs. refl) refl d.kernel user live _ _ d.is.was d.is.now refl refl d.is.asks
-    played_at (Heed p) d apart kid user live right = ran (Heed p) (λ x. refl) (λ rs. refl) refl d.kernel user live _ _ d.is.was d.is.now refl refl refl
-    played_at (Held p x) d apart kid user live right = ran (Held p x) (λ x. refl) (λ rs. refl) refl d.kernel user live _ _ d.is.was d.is.now refl refl (subst Right d.is.was right)
+    played_at (Sent p x) d apart kid user live right = ran (Sent p x) (λ x. refl) (λ rs. refl) refl d.kernel user _ _ d.is.was d.is.now refl
+    played_at (Heed p) d apart kid user live right = ran (Heed p) (λ x. refl) (λ rs. refl) refl d.kernel user _ _ d.is.was d.is.now refl
+    played_at (Held p x) d apart kid user live right = ran (Held p x) (λ x. refl) (λ rs. refl) refl d.kernel user _ _ d.is.was d.is.now refl
     played_at (Served p manner number value child signal ends more poked) d apart kid user live right = so_played manner p number value child signal ends more poked d apart user live right
     played_at (Got p child ended kept) d apart kid user live right =
         let g = got_user n d.is.body d.is.keeps d.is.done in
         let b : (brings O s ≡ child) = ap (brings O) d.is.was ∙ sym d.is.child_is in
-        idle (Got p child ended kept) (λ x. refl) (λ rs. refl) d.kernel user live (ap user_of d.is.now ∙ (g.0 ∙ sym (ap user_of d.is.was))) (ap alive d.is.now ∙ (g.1 ∙ sym (ap alive d.is.was))) (subst Right (sym d.is.now) g.2) (λ c e. kid c (b ∙ e))
-    played_at (Poked p true) d apart kid user live right = idle (Poked p true) (λ x. refl) (λ rs. refl) d.kernel user live (ap user_of d.is.now ∙ (mark_user s).0) (ap alive d.is.now ∙ (mark_user s).1) (subst Right (sym d.is.now) ((mark_user s).2 right)) (λ c h. none_child c _ h)
-    played_at (Poked p false) d apart kid user live right = loose (Poked p false) (λ x. refl) (λ rs. refl) refl d.kernel user live d.is.now right
-    played_at (Begin p to line) d apart kid user live right = ran (Begin p to line) (λ x. refl) (λ rs. refl) refl d.kernel user live _ _ d.is.was d.is.now refl refl refl
+        idle (Got p child ended kept) (λ x. refl) (λ rs. refl) d.kernel user (ap user_of d.is.now ∙ (g ∙ sym (ap user_of d.is.was))) (λ c e. kid c (b ∙ e))
+    played_at (Poked p true) d apart kid user live right = idle (Poked p true) (λ x. refl) (λ rs. refl) d.kernel user (ap user_of d.is.now ∙ mark_user s) (λ c h. none_child c _ h)
+    played_at (Poked p false) d apart kid user live right = loose (Poked p false) (λ x. refl) (λ rs. refl) refl d.kernel user d.is.now
+    played_at (Begin p to reason) d apart kid user live right = ran (Begin p to reason) (λ x. refl) (λ rs. refl) refl d.kernel user _ _ d.is.was d.is.now refl
     played_at (Keep p to line) d apart kid user live right =
         let x = keep_user (record { to = to; line = line }) s in
-        idle (Keep p to line) (λ x. refl) (λ rs. refl) d.kernel user live (ap user_of d.is.now ∙ x.0) (ap alive d.is.now ∙ x.1) (subst Right (sym d.is.now) (x.2 right)) (λ c h. none_child c _ h)
-    played_at (Missed p to line) d apart kid user live right = loose (Missed p to line) (λ x. refl) (λ rs. refl) refl d.kernel user live d.is.now right
-    played_at (Again p to place line) d apart kid user live right = loose (Again p to place line) (λ x. refl) (λ rs. refl) refl d.kernel user live d.is.now right
-    played_at (Allows p from need) d apart kid user live right = ran (Allows p from need) (λ x. refl) (λ rs. refl) refl d.kernel user live _ _ d.is.was d.is.now refl refl (subst Right d.is.was right)
-    played_at (Denies p from need free) d apart kid user live right = ran (Denies p from need free) (λ x. refl) (λ rs. refl) refl d.kernel user live _ _ d.is.was d.is.now refl refl (subst Right d.is.was right)
-    played_at (Depart p to) d apart kid user live right = ran (Depart p to) (λ x. refl) (λ rs. refl) refl d.kernel user live _ _ d.is.was d.is.now refl refl (subst Right d.is.was right)
-    played_at (Stay p to need free) d apart kid user live right = ran (Stay p to need free) (λ x. refl) (λ rs. refl) refl d.kernel user live _ _ d.is.was d.is.now refl refl tt
-    played_at (Land p source) d apart kid user live right = ran (Land p source) (λ x. refl) (λ rs. refl) refl d.kernel user live _ _ d.is.was d.is.now refl refl tt
-    played_at (Told p at source hops line poked) d apart kid user live right = loose (Told p at source hops line poked) (λ x. refl) (λ rs. refl) refl d.kernel user live d.is.now right
-    played_at (Refused p to why line) d apart kid user live right = loose (Refused p to why line) (λ x. refl) (λ rs. refl) refl d.kernel user live d.is.now right
-    played_at (Closed line) d apart kid user live right = loose (Closed line) (λ x. refl) (λ rs. refl) refl d.kernel user live d.is.now right
+        idle (Keep p to line) (λ x. refl) (λ rs. refl) d.kernel user (ap user_of d.is.now ∙ x) (λ c h. none_child c _ h)
+    played_at (Missed p to line) d apart kid user live right = loose (Missed p to line) (λ x. refl) (λ rs. refl) refl d.kernel user d.is.now
+    played_at (Again p to place line) d apart kid user live right = loose (Again p to place line) (λ x. refl) (λ rs. refl) refl d.kernel user d.is.now
+    played_at (Allows p from need) d apart kid user live right = ran (Allows p from need) (λ x. refl) (λ rs. refl) refl d.kernel user _ _ d.is.was d.is.now refl
+    played_at (Denies p from need free) d apart kid user live right = ran (Denies p from need free) (λ x. refl) (λ rs. refl) refl d.kernel user _ _ d.is.was d.is.now refl
+    played_at (Depart p to) d apart kid user live right = ran (Depart p to) (λ x. refl) (λ rs. refl) refl d.kernel user _ _ d.is.was d.is.now refl
+    played_at (Stay p to need free) d apart kid user live right = ran (Stay p to need free) (λ x. refl) (λ rs. refl) refl d.kernel user _ _ d.is.was d.is.now refl
+    played_at (Land p source) d apart kid user live right = ran (Land p source) (λ x. refl) (λ rs. refl) refl d.kernel user _ _ d.is.was d.is.now refl
+    played_at (Told p at source hops line poked) d apart kid user live right = loose (Told p at source hops line poked) (λ x. refl) (λ rs. refl) refl d.kernel user d.is.now
+    played_at (Refused p to why line) d apart kid user live right = loose (Refused p to why line) (λ x. refl) (λ rs. refl) refl d.kernel user d.is.now
+    played_at (Closed line) d apart kid user live right = loose (Closed line) (λ x. refl) (λ rs. refl) refl d.kernel user d.is.now
+    played_at (Gossips heard other) d apart kid user live right = loose (Gossips heard other) (λ x. refl) (λ rs. refl) refl d.kernel user d.is.now
     played_at (Strange p) d apart kid user live right = absurd d

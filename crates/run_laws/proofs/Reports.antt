@@ -1,8 +1,8 @@
 -- Each landing is told at most once, so no process is told more often than the most hops told.
 use Rattle.std.proofs.Common.{◌≡◌, ◌≢◌, ℕ, zero, suc, ◌+◌, ◌<◌, ◌≤◌, ◌==◌, ◌&&◌, ◌⊎◌, inl, inr, Bool, true, false, cond, Option, Some, None, List, [], ◌∷◌, refl, sym, ap, ◌∙◌, subst, arith}
 use Rattle.run_tokens.specs.Ops.{Ops, Sound}
-use Rattle.run_tokens.specs.Deeds.{Manner, Did, Broke, Fell, Paused, Deed, Run, Kill, Bid, Unsent, Other, Steps, Sent, Heed, Held, Served, Got, Poked, Begin, Keep, Missed, Again, Allows, Denies, Depart, Stay, Land, Told, Refused, Closed, Strange, Noted, pid_of}
-use Rattle.run_tokens.specs.Notes.{Done, Note, Call, Pause, Reply, Poke, Go, NotHere, Ask, Allow, Deny, Move, Landed, NoMove, Post, Turn, letter, Body, Kept, Local, Believed, Way, way}
+use Rattle.run_tokens.specs.Deeds.{ForLine, Chosen, Manner, Did, Broke, Fell, Paused, Deed, Run, Kill, Bid, Unsent, Other, Steps, Sent, Heed, Held, Served, Got, Poked, Begin, Keep, Missed, Again, Allows, Denies, Depart, Stay, Land, Told, Refused, Closed, Gossips, Strange, Noted, pid_of}
+use Rattle.run_tokens.specs.Notes.{Done, Note, Call, Pause, Reply, Poke, Half, Go, NotHere, Ask, Allow, Deny, Move, Landed, NoMove, Post, Turn, letter, Body, Kept, Local, Believed, Way, way}
 use Rattle.run_tokens.specs.Spots.{Spot, Nowhere, Travels}
 use Rattle.run_tokens.specs.Cluster.{World, Goes}
 use Rattle.run_tokens.specs.Does.{Does, ServedBy, got_posts}
@@ -93,6 +93,7 @@ module _ (O : Ops) (S : Sound O) where
   landed_of p i (Pause q r) = false
   landed_of p i (Reply q d) = false
   landed_of p i (Poke q) = false
+  landed_of p i (Half places) = false
   landed_of p i (Go q to h line) = false
   landed_of p i (NotHere q to h line) = false
   landed_of p i (Ask q need) = false
@@ -107,6 +108,7 @@ module _ (O : Ops) (S : Sound O) where
   Unlanded (Pause q r) = Unit {0}
   Unlanded (Reply q d) = Unit {0}
   Unlanded (Poke q) = Unit {0}
+  Unlanded (Half places) = Unit {0}
   Unlanded (Go q to h line) = Unit {0}
   Unlanded (NotHere q to h line) = Unit {0}
   Unlanded (Ask q need) = Unit {0}
@@ -121,6 +123,7 @@ module _ (O : Ops) (S : Sound O) where
   unlanded p i (Pause q r) k = refl
   unlanded p i (Reply q d) k = refl
   unlanded p i (Poke q) k = refl
+  unlanded p i (Half places) k = refl
   unlanded p i (Go q to h line) k = refl
   unlanded p i (NotHere q to h line) k = refl
   unlanded p i (Ask q need) k = refl
@@ -476,8 +479,7 @@ module _ (O : Ops) (S : Sound O) where
     served_next Did x number value child signal ends more poked q (inr d) = quiet_next q _ _ d.base.took d.base.posts tt (tt, pokes_un t.event.stamp old.believed poked)
     served_next Broke x number value child signal ends more poked q (inl d) = quiet_next q _ _ d.base.took d.base.posts tt (tt, pokes_un t.event.stamp old.believed poked)
     served_next Broke x number value child signal ends more poked q (inr d) = quiet_next q _ _ d.base.took d.base.posts tt (tt, pokes_un t.event.stamp old.believed poked)
-    served_next Fell x number value child signal ends more poked q (inl d) = quiet_next q _ _ d.base.took d.base.posts tt (tt, pokes_un t.event.stamp old.believed poked)
-    served_next Fell x number value child signal ends more poked q (inr d) = quiet_next q _ _ d.base.took d.base.posts tt (tt, pokes_un t.event.stamp old.believed poked)
+    served_next Fell x number value child signal ends more poked q d = quiet_next q _ _ d.base.took d.base.posts tt (tt, pokes_un t.event.stamp old.believed poked)
     served_next Paused x number value child signal ends more poked q d = quiet_next q _ _ d.base.took d.base.posts tt (tt, pokes_un t.event.stamp old.believed poked)
 
     pub reports_next : (what : Deed) → t.event.what ≡ what → Does O what n old t new → Needs O what n old new (sp (pid_of what)) st.own → Reports (t ∷ h) next v
@@ -494,7 +496,9 @@ module _ (O : Ops) (S : Sound O) where
     reports_next (Got p child ended kept) is d need = quiet_next (silent_of (Got p child ended kept) is (λ i x. refl, λ m. refl, λ m. refl, λ n p i k l o. refl)) _ _ d.base.took d.base.posts tt (got_un p d.body d.keeps d.done)
     reports_next (Poked p true) is d need = quiet_next (silent_of (Poked p true) is (λ i x. refl, λ m. refl, λ m. refl, λ n p i k l o. refl)) _ _ d.base.took d.base.posts tt tt
     reports_next (Poked p false) is d need = quiet_next (silent_of (Poked p false) is (λ i x. refl, λ m. refl, λ m. refl, λ n p i k l o. refl)) _ _ d.base.took d.base.posts tt tt
-    reports_next (Begin p to line) is d need = quiet_next (silent_of (Begin p to line) is (λ i x. refl, λ m. refl, λ m. refl, λ n p i k l o. refl)) _ _ d.base.took d.base.posts tt (tt, tt)
+    reports_next (Begin p to (ForLine line)) is d need = quiet_next (silent_of (Begin p to (ForLine line)) is (λ i x. refl, λ m. refl, λ m. refl, λ n p i k l o. refl)) _ _ d.base.took d.base.posts tt (tt, tt)
+    reports_next (Begin p to (Chosen false other)) is d need = quiet_next (silent_of (Begin p to (Chosen false other)) is (λ i x. refl, λ m. refl, λ m. refl, λ n p i k l o. refl)) _ _ d.base.took d.base.posts tt (tt, (tt, tt))
+    reports_next (Begin p to (Chosen true other)) is d need = quiet_next (silent_of (Begin p to (Chosen true other)) is (λ i x. refl, λ m. refl, λ m. refl, λ n p i k l o. refl)) _ _ d.base.took d.base.posts tt (tt, tt)
     reports_next (Keep p to line) is d need = quiet_next (silent_of (Keep p to line) is (λ i x. refl, λ m. refl, λ m. refl, λ n p i k l o. refl)) _ _ d.base.took d.base.posts tt tt
     reports_next (Missed p to line) is d need = quiet_next (silent_of (Missed p to line) is (λ i x. refl, λ m. refl, λ m. refl, λ n p i k l o. refl)) _ _ d.base.took d.base.posts tt (tt, tt)
     reports_next (Again p to place line) is d need = quiet_next (silent_of (Again p to place line) is (λ i x. refl, λ m. refl, λ m. refl, λ n p i k l o. refl)) _ _ d.base.took d.base.posts tt (tt, tt)
@@ -507,6 +511,8 @@ module _ (O : Ops) (S : Sound O) where
     reports_next (Refused p to why line) is (inl d) need = quiet_next (silent_of (Refused p to why line) is (λ i x. refl, λ m. refl, λ m. refl, λ n p i k l o. refl)) _ _ d.base.took d.base.posts tt (tt, tt)
     reports_next (Refused p to why line) is (inr d) need = quiet_next (silent_of (Refused p to why line) is (λ i x. refl, λ m. refl, λ m. refl, λ n p i k l o. refl)) _ _ d.base.took d.base.posts tt tt
     reports_next (Closed line) is d need = quiet_next (silent_of (Closed line) is (λ i x. refl, λ m. refl, λ m. refl, λ n p i k l o. refl)) _ _ d.base.took d.base.posts tt tt
+    reports_next (Gossips false other) is d need = quiet_next (silent_of (Gossips false other) is (λ i x. refl, λ m. refl, λ m. refl, λ n p i k l o. refl)) _ _ d.base.took d.base.posts tt (tt, tt)
+    reports_next (Gossips true other) is d need = quiet_next (silent_of (Gossips true other) is (λ i x. refl, λ m. refl, λ m. refl, λ n p i k l o. refl)) _ _ d.base.took d.base.posts tt tt
     reports_next (Strange p) is d need = absurd need
 
   sum_zero : (f : ℕ → ℕ) → ((k : ℕ) → f k ≡ 0) → (m : ℕ) → sum_to f m ≡ 0

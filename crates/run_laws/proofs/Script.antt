@@ -1,12 +1,12 @@
 -- The commands of a run are the lines of the script, in their order, each where it is enabled.
-use Rattle.std.proofs.Common.{◌≡◌, ℕ, ◌+◌, ◌<◌, ◌≤◌, ◌==◌, ◌⊎◌, inl, inr, Bool, true, false, not, cond, Option, Some, None, List, [], ◌∷◌, refl, sym, ap, ◌∙◌, subst}
+use Rattle.std.proofs.Common.{◌≡◌, ◌≢◌, ℕ, ◌+◌, ◌<◌, ◌≤◌, ◌==◌, ◌⊎◌, inl, inr, Bool, true, false, not, cond, Option, Some, None, List, [], ◌∷◌, refl, sym, ap, ◌∙◌, subst}
 use Rattle.std.specs.Prelude.{ℤ, slice_get}
 use Rattle.call_table.specs.declared.process.End.{End}
 use Rattle.node_event.specs.declared.script.Order.{Order}
 use Rattle.node_event.specs.declared.script.Order.TheVariants as order
 use Rattle.run_tokens.specs.Ops.{Ops, Sound}
-use Rattle.run_tokens.specs.Deeds.{Input, Text, Finish, Nothing, Manner, Did, Broke, Fell, Paused, Deed, Run, Kill, Bid, Unsent, Other, Steps, Sent, Heed, Held, Served, Got, Poked, Begin, Keep, Missed, Again, Allows, Denies, Depart, Stay, Land, Told, Refused, Closed, Strange, Noted, pid_of}
-use Rattle.run_tokens.specs.Notes.{Progress, served_one, Turn, Slot, Local}
+use Rattle.run_tokens.specs.Deeds.{Input, Text, Finish, Nothing, Manner, Did, Broke, Fell, Paused, Deed, Run, Kill, Bid, Unsent, Other, Steps, Sent, Heed, Held, Served, Got, Poked, Begin, Keep, Missed, Again, Allows, Denies, Depart, Stay, Land, Told, Refused, Closed, Gossips, Strange, Noted, pid_of}
+use Rattle.run_tokens.specs.Notes.{Progress, SameProgress, served_one, Turn, Slot, Local}
 use Rattle.run_tokens.specs.Spots.{Spot, call_at}
 use Rattle.run_tokens.specs.Home.{live_of, HasEnded, unheld}
 use Rattle.run_tokens.specs.Does.{Does, ServedBy, EnabledHere, Ordered, Feeds}
@@ -46,9 +46,9 @@ module _ (O : Ops) (S : Sound O) where
 
     ordered_on : (line : ℕ) (what : Deed) (o : Order) (ps : List ℕ) → Ordered O line o ps old new → line_of what ≡ Some line → ps ≡ launched_by what old.progress.launched → ((q k : ℕ) → calls_by what q k ≡ k) → (e : Noted) → e.what ≡ what → Follows es old.progress → Follows (e ∷ es) new.progress
     ordered_on line what o ps d is launched quiet e x was = record {
-      done = ap (λ (g : Progress). g.done) d.is ∙ (ap (λ (k : ℕ). k + 1) was.done ∙ sym (ap (λ (k : Option ℕ). one_more k (commands es)) (ap line_of x ∙ is)));
-      launched = ap (λ (g : Progress). g.launched) d.is ∙ (launched ∙ (ap (launched_by what) was.launched ∙ ap (λ (k : Deed). launched_by k (launched_in es)) (sym x)));
-      served = λ q. ap (λ (g : Progress). g.served q) d.is ∙ (was.served q ∙ (sym (quiet q (calls_served q es)) ∙ ap (λ (k : Deed). calls_by k q (calls_served q es)) (sym x)));
+      done = d.is.done ∙ (ap (λ (k : ℕ). k + 1) was.done ∙ sym (ap (λ (k : Option ℕ). one_more k (commands es)) (ap line_of x ∙ is)));
+      launched = d.is.launched ∙ (launched ∙ (ap (launched_by what) was.launched ∙ ap (λ (k : Deed). launched_by k (launched_in es)) (sym x)));
+      served = λ q. d.is.served q ∙ (was.served q ∙ (sym (quiet q (calls_served q es)) ∙ ap (λ (k : Deed). calls_by k q (calls_served q es)) (sym x)));
     }
 
     silent_on : (what : Deed) → new.progress ≡ old.progress → Silent what → (e : Noted) → e.what ≡ what → Follows es old.progress → Follows (e ∷ es) new.progress
@@ -58,11 +58,11 @@ module _ (O : Ops) (S : Sound O) where
       served = λ q. ap (λ (g : Progress). g.served q) same ∙ (was.served q ∙ (sym (s.served q (calls_served q es)) ∙ ap (λ (k : Deed). calls_by k q (calls_served q es)) (sym x)));
     }
 
-    served_on : (manner : Manner) (p : ℕ) (number : Option ℕ) (value : Option ℤ) (child signal : Option ℕ) (ends : Option End) (more : Bool) (poked : List ℕ) → new.progress ≡ served_one p old.progress → is_paused manner ≡ false → (e : Noted) → e.what ≡ Served p manner number value child signal ends more poked → Follows es old.progress → Follows (e ∷ es) new.progress
+    served_on : (manner : Manner) (p : ℕ) (number : Option ℕ) (value : Option ℤ) (child signal : Option ℕ) (ends : Option End) (more : Bool) (poked : List ℕ) → SameProgress new.progress (served_one p old.progress) → is_paused manner ≡ false → (e : Noted) → e.what ≡ Served p manner number value child signal ends more poked → Follows es old.progress → Follows (e ∷ es) new.progress
     served_on manner p number value child signal ends more poked same call e x was = record {
-      done = ap (λ (g : Progress). g.done) same ∙ (was.done ∙ sym (ap (λ (k : Deed). one_more (line_of k) (commands es)) x));
-      launched = ap (λ (g : Progress). g.launched) same ∙ (was.launched ∙ sym (ap (λ (k : Deed). launched_by k (launched_in es)) x));
-      served = λ q. ap (λ (g : Progress). g.served q) same
+      done = same.done ∙ (was.done ∙ sym (ap (λ (k : Deed). one_more (line_of k) (commands es)) x));
+      launched = same.launched ∙ (was.launched ∙ sym (ap (λ (k : Deed). launched_by k (launched_in es)) x));
+      served = λ q. same.served q
           ∙ (ap (λ (k : ℕ). cond (q == p) (k + 1) k) (was.served q) ∙ (sym (ap (λ (b : Bool). cond b (calls_served q es) (cond (q == p) (calls_served q es + 1) (calls_served q es))) call) ∙ sym (ap (λ (k : Deed). calls_by k q (calls_served q es)) x)));
     }
 
@@ -71,8 +71,7 @@ module _ (O : Ops) (S : Sound O) where
     so_on Did p number value child signal ends more poked (inr d) = inl (d.home, served_on Did p number value child signal ends more poked d.progress refl)
     so_on Broke p number value child signal ends more poked (inl d) = inl (d.home, served_on Broke p number value child signal ends more poked d.progress refl)
     so_on Broke p number value child signal ends more poked (inr d) = inl (d.home, served_on Broke p number value child signal ends more poked d.progress refl)
-    so_on Fell p number value child signal ends more poked (inl d) = inl (d.home, served_on Fell p number value child signal ends more poked d.progress refl)
-    so_on Fell p number value child signal ends more poked (inr d) = inl (d.home, served_on Fell p number value child signal ends more poked d.progress refl)
+    so_on Fell p number value child signal ends more poked d = inl (d.home, served_on Fell p number value child signal ends more poked d.progress refl)
     so_on Paused p number value child signal ends more poked d = inr (d.progress, record { line = refl; launched = λ ps. refl; served = λ q k. refl })
 
     moves_on : (what : Deed) → Does O what n old t new → Moves_on what
@@ -89,7 +88,7 @@ module _ (O : Ops) (S : Sound O) where
     moves_on (Got p child ended kept) d = inr (d.still.progress, record { line = refl; launched = λ ps. refl; served = λ q k. refl })
     moves_on (Poked p true) d = inr (d.still.progress, record { line = refl; launched = λ ps. refl; served = λ q k. refl })
     moves_on (Poked p false) d = inr (d.still.progress, record { line = refl; launched = λ ps. refl; served = λ q k. refl })
-    moves_on (Begin p to line) d = inr (d.still.progress, record { line = refl; launched = λ ps. refl; served = λ q k. refl })
+    moves_on (Begin p to reason) d = inr (d.still.progress, record { line = refl; launched = λ ps. refl; served = λ q k. refl })
     moves_on (Keep p to line) d = inr (d.still.progress, record { line = refl; launched = λ ps. refl; served = λ q k. refl })
     moves_on (Missed p to line) d = inr (d.still.progress, record { line = refl; launched = λ ps. refl; served = λ q k. refl })
     moves_on (Allows p from need) d = inr (d.still.progress, record { line = refl; launched = λ ps. refl; served = λ q k. refl })
@@ -101,6 +100,7 @@ module _ (O : Ops) (S : Sound O) where
     moves_on (Held p k) d = inr (d.still.progress, record { line = refl; launched = λ ps. refl; served = λ q k. refl })
     moves_on (Again p to place line) d = inr (d.still.progress, record { line = refl; launched = λ ps. refl; served = λ q k. refl })
     moves_on (Closed line) d = inr (d.still.progress, record { line = refl; launched = λ ps. refl; served = λ q k. refl })
+    moves_on (Gossips heard other) d = inr (d.still.progress, record { line = refl; launched = λ ps. refl; served = λ q k. refl })
     moves_on (Refused p to why line) (inl d) = inr (d.still.progress, record { line = refl; launched = λ ps. refl; served = λ q k. refl })
     moves_on (Refused p to why line) (inr d) = inr (d.still.progress, record { line = refl; launched = λ ps. refl; served = λ q k. refl })
 
@@ -110,8 +110,7 @@ module _ (O : Ops) (S : Sound O) where
     so_home Did p number value child signal ends more poked (inr d) = d.home
     so_home Broke p number value child signal ends more poked (inl d) = d.home
     so_home Broke p number value child signal ends more poked (inr d) = d.home
-    so_home Fell p number value child signal ends more poked (inl d) = d.home
-    so_home Fell p number value child signal ends more poked (inr d) = d.home
+    so_home Fell p number value child signal ends more poked d = d.home
     so_home Paused p number value child signal ends more poked d = d.home
 
     at_home : (what : Deed) → (what ≡ Strange (pid_of what) → ⊥) → Does O what n old t new → AtHome what n
@@ -125,7 +124,7 @@ module _ (O : Ops) (S : Sound O) where
     at_home (Heed p) some d = tt
     at_home (Got p child ended kept) some d = tt
     at_home (Poked p used) some d = tt
-    at_home (Begin p to line) some d = tt
+    at_home (Begin p to reason) some d = tt
     at_home (Keep p to line) some d = tt
     at_home (Missed p to line) some d = tt
     at_home (Allows p from need) some d = tt
@@ -138,6 +137,7 @@ module _ (O : Ops) (S : Sound O) where
     at_home (Told p at source hops line poked) some d = d.home
     at_home (Again p to place line) some d = d.home
     at_home (Closed line) some d = d.home
+    at_home (Gossips heard other) some d = tt
     at_home (Served p manner number value child signal ends more poked) some d = so_home manner p number value child signal ends more poked d
     at_home (Strange p) some d = absurd (some refl)
 
@@ -147,7 +147,7 @@ module _ (O : Ops) (S : Sound O) where
       ended_at p e = subst (λ (k : O.Kernel). HasEnded O k p) kernel e
 
       enabled_at : (o : Order) → EnabledHere O o old → Enabled O o es m
-      enabled_at (order.Run words) e = tt
+      enabled_at (order.Run words) e = subst (λ (k : O.Kernel). O.launch k ≢ None) kernel e
       enabled_at (order.Kill p s) e = tt
       enabled_at (order.Move p to) e = tt
       enabled_at (order.Feed text) e = tt
@@ -204,7 +204,7 @@ module _ (O : Ops) (S : Sound O) where
     command_law m kernel was holds (Served p manner number value child signal ends more poked) d = tt
     command_law m kernel was holds (Got p child ended kept) d = tt
     command_law m kernel was holds (Poked p used) d = tt
-    command_law m kernel was holds (Begin p to line) d = tt
+    command_law m kernel was holds (Begin p to reason) d = tt
     command_law m kernel was holds (Keep p to line) d = tt
     command_law m kernel was holds (Missed p to line) d = tt
     command_law m kernel was holds (Again p to place line) d = tt
@@ -216,6 +216,7 @@ module _ (O : Ops) (S : Sound O) where
     command_law m kernel was holds (Told p at source hops line poked) d = tt
     command_law m kernel was holds (Refused p to why line) d = tt
     command_law m kernel was holds (Closed line) d = tt
+    command_law m kernel was holds (Gossips heard other) d = tt
     command_law m kernel was holds (Strange p) d = tt
 
   follows_next : (es : List Noted) (w : World O) (t : Turn O) (v : World O) (sp next : ℕ → Spot O) → Step O S sp w t next v → Follows es (w.nodes 0).progress → Follows (t.event ∷ es) (v.nodes 0).progress

@@ -1,12 +1,12 @@
 -- An event's stamp is above its node's clock, and above the stamp of the letter that it takes.
-use Rattle.std.proofs.Common.{◌≡◌, ℕ, ◌<◌, Option, Some, None, arith}
+use Rattle.std.proofs.Common.{ℕ, ◌<◌, ◌≤◌, Option, Some, None, arith}
 use Rattle.std.specs.Prelude.{IfSome}
 use Rattle.run_tokens.specs.Ops.{Ops}
 use Rattle.run_tokens.specs.Notes.{Post, Turn, Local}
 use Rattle.run_tokens.specs.Does.{Makes, next_stamp}
 
 module _ (O : Ops) where
-  pub later_by : (clock s : ℕ) (o : Option (Post O)) → s ≡ next_stamp O clock o → (clock < s) × IfSome o (λ l. l.stamp < s)
+  pub later_by : (clock s : ℕ) (o : Option (Post O)) → next_stamp O clock o ≤ s → (clock < s) × IfSome o (λ l. l.stamp < s)
   later_by clock s None e = (omega (arith, e), tt)
   later_by clock s (Some l) e = (omega (arith, e), omega (arith, e))
 

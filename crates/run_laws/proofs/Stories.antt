@@ -31,31 +31,35 @@ mover_sound = sound move_script move_programs move_lines move_targets
 
 pub hello_lawful : Lawful hello (read hello_script hello_events)
 hello_lawful = record {
-  script = (record { below = omega arith; at_home = tt; command = tt }, (record { below = omega arith; at_home = refl; command = tt }, (record { below = omega arith; at_home = tt; command = tt }, (record { below = omega arith; at_home = tt; command = tt }, (record { below = omega arith; at_home = tt; command = tt }, (record { below = omega arith; at_home = refl; command = tt }, (record { below = omega arith; at_home = tt; command = tt }, (record { below = omega arith; at_home = tt; command = tt }, (record { below = omega arith; at_home = tt; command = record { home = refl; asked = order.Run []; next = refl; suits = tt; enabled = tt; pid = refl } }, tt)))))))));
+  script = (record { below = omega arith; at_home = tt; command = tt }, (record { below = omega arith; at_home = refl; command = tt }, (record { below = omega arith; at_home = tt; command = tt }, (record { below = omega arith; at_home = tt; command = tt }, (record { below = omega arith; at_home = tt; command = tt }, (record { below = omega arith; at_home = refl; command = tt }, (record { below = omega arith; at_home = tt; command = tt }, (record { below = omega arith; at_home = tt; command = tt }, (record { below = omega arith; at_home = tt; command = record { home = refl; asked = order.Run []; next = refl; suits = tt; enabled = λ z. cc; pid = refl } }, tt)))))))));
   place = (refl, (tt, (refl, (refl, (refl, (tt, (refl, (refl, (refl, tt)))))))));
   news = (tt, (tt, (tt, (tt, (tt, (tt, (tt, (tt, (tt, tt)))))))));
   freeze = ((refl, refl, tt), (tt, ((refl, refl), ((refl, refl), ((refl, refl, tt), (tt, ((refl, refl), ((refl, refl), (tt, tt)))))))));
-  once = ((refl, refl, refl), (record { waits = refl; kind = refl; first = refl; number_is = (1, refl, λ z. omega (arith, z), record { user = _; request = ExitCall 0; has = refl; asks = refl; number_is = refl }); reply = refl; end_is = refl }, (record { user = _; request = ExitCall 0; has = refl; asks = refl; number_is = refl }, (record { least = omega arith; most = omega arith; user = _; has = refl; whole = inr (inl refl) }, ((refl, refl, refl), (record { waits = refl; kind = refl; first = refl; number_is = (9, refl, λ z. omega (arith, z), record { user = _; request = WriteCall 3; has = refl; asks = refl; number_is = refl }); reply = refl; end_is = refl }, (record { user = _; request = WriteCall 3; has = refl; asks = refl; number_is = refl }, (record { least = omega arith; most = omega arith; user = _; has = refl; whole = inr (inl refl) }, (tt, tt)))))))));
+  once = ((refl, refl, refl), (record { waits = refl; kind = refl; first = refl; number_is = (1, refl, λ z. omega (arith, z), record { user = _; request = ExitCall 0; has = refl; asks = refl; number_is = refl }); value_is = tt; reply = refl; end_is = refl }, (record { user = _; request = ExitCall 0; has = refl; asks = refl; number_is = refl }, (record { least = omega arith; most = omega arith; user = _; has = refl; whole = inr (inl refl) }, ((refl, refl, refl), (record { waits = refl; kind = refl; first = refl; number_is = (9, refl, λ z. omega (arith, z), record { user = _; request = WriteCall 3; has = refl; asks = refl; number_is = refl }); value_is = tt; reply = refl; end_is = refl }, (record { user = _; request = WriteCall 3; has = refl; asks = refl; number_is = refl }, (record { least = omega arith; most = omega arith; user = _; has = refl; whole = inr (inl refl) }, (tt, tt)))))))));
   signal = (tt, (record { takes = refl; more_is = refl }, (tt, (tt, (tt, (record { takes = refl; more_is = refl }, (tt, (tt, (tt, tt)))))))));
-  poke = (tt, (record { user = _; request = ExitCall 0; first = _; has = refl; asks = refl; acts = (_, refl, λ z. omega (arith, z), refl); pokes = refl }, (tt, (tt, (tt, (record { user = _; request = WriteCall 3; first = _; has = refl; asks = refl; acts = (_, refl, λ z. omega (arith, z), refl); pokes = refl }, (tt, (tt, (tt, tt)))))))));
+  poke = (tt, (refl, (tt, (tt, (tt, (refl, (tt, (tt, (tt, tt)))))))));
   heed = (tt, (tt, (refl, (refl, (tt, (tt, (refl, (refl, (tt, tt)))))))));
+  gossip = (tt, (tt, (tt, ((λ z. omega arith), (tt, (tt, (tt, ((λ z. omega arith), (tt, tt)))))))));
+  choice = (tt, (tt, (tt, (tt, (tt, (tt, (tt, (tt, (tt, tt)))))))));
 }
 
 pub fork_lawful : Lawful forker (read fork_script fork_events)
 fork_lawful = record {
-  script = (record { below = omega arith; at_home = tt; command = tt }, (record { below = omega arith; at_home = refl; command = tt }, (record { below = omega arith; at_home = tt; command = tt }, (record { below = omega arith; at_home = tt; command = tt }, (record { below = omega arith; at_home = refl; command = tt }, (record { below = omega arith; at_home = tt; command = tt }, (record { below = omega arith; at_home = tt; command = record { home = refl; asked = order.Run []; next = refl; suits = tt; enabled = tt; pid = refl } }, tt)))))));
+  script = (record { below = omega arith; at_home = tt; command = tt }, (record { below = omega arith; at_home = refl; command = tt }, (record { below = omega arith; at_home = tt; command = tt }, (record { below = omega arith; at_home = tt; command = tt }, (record { below = omega arith; at_home = refl; command = tt }, (record { below = omega arith; at_home = tt; command = tt }, (record { below = omega arith; at_home = tt; command = record { home = refl; asked = order.Run []; next = refl; suits = tt; enabled = λ z. cc; pid = refl } }, tt)))))));
   place = (refl, (tt, (refl, (refl, (tt, (refl, (refl, tt)))))));
   news = (tt, (tt, (tt, (tt, (tt, (tt, (tt, tt)))))));
   freeze = ((refl, refl, tt), (tt, ((refl, refl), ((refl, refl, tt), (tt, ((refl, refl), (tt, tt)))))));
-  once = ((refl, refl, refl), (record { waits = refl; kind = refl; first = refl; number_is = (1, refl, λ z. omega (arith, z), record { user = _; request = ExitCall 7; has = refl; asks = refl; number_is = refl }); reply = refl; end_is = refl }, (record { user = _; request = ExitCall 7; has = refl; asks = refl; number_is = refl }, ((refl, refl, refl), (record { waits = refl; kind = refl; first = refl; number_is = (4, refl, λ z. omega (arith, z), record { user = _; request = ForkCall; has = refl; asks = refl; number_is = refl }); reply = refl; end_is = refl }, (record { user = _; request = ForkCall; has = refl; asks = refl; number_is = refl }, (tt, tt)))))));
+  once = ((refl, refl, refl), (record { waits = refl; kind = refl; first = refl; number_is = (1, refl, λ z. omega (arith, z), record { user = _; request = ExitCall 7; has = refl; asks = refl; number_is = refl }); value_is = tt; reply = refl; end_is = refl }, (record { user = _; request = ExitCall 7; has = refl; asks = refl; number_is = refl }, ((refl, refl, refl), (record { waits = refl; kind = refl; first = refl; number_is = (4, refl, λ z. omega (arith, z), record { user = _; request = ForkCall; has = refl; asks = refl; number_is = refl }); value_is = tt; reply = refl; end_is = refl }, (record { user = _; request = ForkCall; has = refl; asks = refl; number_is = refl }, (tt, tt)))))));
   signal = (tt, (record { takes = refl; more_is = refl }, (tt, (tt, (record { takes = refl; more_is = refl }, (tt, (tt, tt)))))));
-  poke = (tt, (record { user = _; request = ExitCall 7; first = _; has = refl; asks = refl; acts = (_, refl, λ z. omega (arith, z), refl); pokes = refl }, (tt, (tt, (record { user = _; request = ForkCall; first = _; has = refl; asks = refl; acts = (_, refl, λ z. omega (arith, z), refl); pokes = refl }, (tt, (tt, tt)))))));
+  poke = (tt, (refl, (tt, (tt, (refl, (tt, (tt, tt)))))));
   heed = (tt, (tt, (refl, (tt, (tt, (refl, (tt, tt)))))));
+  gossip = (tt, (tt, (tt, (tt, (tt, (tt, (tt, tt)))))));
+  choice = (tt, (tt, (tt, (tt, (tt, (tt, (tt, tt)))))));
 }
 
 pub move_lawful : Lawful mover (read move_script move_events)
 move_lawful = record {
-  script = (record { below = omega arith; at_home = tt; command = tt }, (record { below = omega arith; at_home = refl; command = tt }, (record { below = omega arith; at_home = tt; command = tt }, (record { below = omega arith; at_home = tt; command = tt }, (record { below = omega arith; at_home = tt; command = tt }, (record { below = omega arith; at_home = tt; command = tt }, (record { below = omega arith; at_home = tt; command = record { home = refl; asked = order.Move 1 1; next = refl; suits = (refl, refl); enabled = tt; pid = tt } }, (record { below = omega arith; at_home = tt; command = record { home = refl; asked = order.Run []; next = refl; suits = tt; enabled = tt; pid = refl } }, tt))))))));
+  script = (record { below = omega arith; at_home = tt; command = tt }, (record { below = omega arith; at_home = refl; command = tt }, (record { below = omega arith; at_home = tt; command = tt }, (record { below = omega arith; at_home = tt; command = tt }, (record { below = omega arith; at_home = tt; command = tt }, (record { below = omega arith; at_home = tt; command = tt }, (record { below = omega arith; at_home = tt; command = record { home = refl; asked = order.Move 1 1; next = refl; suits = (refl, refl); enabled = tt; pid = tt } }, (record { below = omega arith; at_home = tt; command = record { home = refl; asked = order.Run []; next = refl; suits = tt; enabled = λ z. cc; pid = refl } }, tt))))))));
   place = (refl, (tt, (refl, (refl, (tt, (refl, (tt, (refl, tt))))))));
   news = (tt, (tt, (tt, (tt, (tt, (tt, (tt, (tt, tt))))))));
   freeze = ((refl, refl), (tt, (tt, (refl, (tt, ((refl, refl), (tt, (tt, tt))))))));
@@ -63,30 +67,36 @@ move_lawful = record {
   signal = (tt, (tt, (tt, (tt, (tt, (tt, (tt, (tt, tt))))))));
   poke = (tt, (refl, (tt, (tt, (tt, (tt, (tt, (tt, tt))))))));
   heed = (refl, (tt, (tt, (tt, (tt, (tt, (tt, (tt, tt))))))));
+  gossip = ((λ z. omega arith), (tt, (tt, (tt, (tt, (tt, (tt, (tt, tt))))))));
+  choice = (tt, (tt, (tt, (tt, (tt, (tt, (tt, (tt, tt))))))));
 }
 
 pub break_lawful : Lawful breaker (read break_script break_events)
 break_lawful = record {
-  script = (record { below = omega arith; at_home = tt; command = tt }, (record { below = omega arith; at_home = refl; command = tt }, (record { below = omega arith; at_home = tt; command = record { home = refl; asked = order.Kill 1 15; next = refl; suits = (refl, refl); enabled = tt; pid = tt } }, (record { below = omega arith; at_home = refl; command = tt }, (record { below = omega arith; at_home = tt; command = tt }, (record { below = omega arith; at_home = tt; command = record { home = refl; asked = order.Run []; next = refl; suits = tt; enabled = tt; pid = refl } }, tt))))));
+  script = (record { below = omega arith; at_home = tt; command = tt }, (record { below = omega arith; at_home = refl; command = tt }, (record { below = omega arith; at_home = tt; command = record { home = refl; asked = order.Kill 1 15; next = refl; suits = (refl, refl); enabled = tt; pid = tt } }, (record { below = omega arith; at_home = refl; command = tt }, (record { below = omega arith; at_home = tt; command = tt }, (record { below = omega arith; at_home = tt; command = record { home = refl; asked = order.Run []; next = refl; suits = tt; enabled = λ z. cc; pid = refl } }, tt))))));
   place = (refl, (tt, (tt, (tt, (refl, (refl, tt))))));
   news = (tt, (tt, (tt, (tt, (tt, (tt, tt))))));
   freeze = ((refl, refl, tt), (tt, (tt, (tt, ((refl, refl), (tt, tt))))));
-  once = ((refl, refl, refl), (record { waits = refl; kind = refl; first = refl; number_is = (8, refl, λ z. omega (arith, z), record { user = _; request = ReadCall; has = refl; asks = refl; number_is = refl }); reply = refl; end_is = refl }, (tt, (record { waits = refl; calls = refl; unserved = refl; first = refl; requests = record { user = _; request = ReadCall; has = refl; asks = refl; number_is = refl }; blocks = refl; quiet = refl }, (record { user = _; request = ReadCall; has = refl; asks = refl; number_is = refl }, (tt, tt))))));
+  once = ((refl, refl, refl), (record { waits = refl; kind = refl; first = refl; number_is = (8, refl, λ z. omega (arith, z), record { user = _; request = ReadCall; has = refl; asks = refl; number_is = refl }); value_is = tt; reply = refl; end_is = refl }, (tt, (record { waits = refl; calls = refl; unserved = refl; first = refl; call = λ z. omega (arith, z); requests = record { user = _; request = ReadCall; has = refl; asks = refl; number_is = refl }; blocks = refl; quiet = refl }, (record { user = _; request = ReadCall; has = refl; asks = refl; number_is = refl }, (tt, tt))))));
   signal = (tt, (record { takes = refl; more_is = refl }, (tt, (tt, (tt, (tt, tt))))));
-  poke = (tt, (record { user = _; request = ReadCall; first = _; has = refl; asks = refl; acts = (15, refl, refl, λ z. omega (arith, z), refl); pokes = refl }, (refl, (tt, (tt, (tt, tt))))));
+  poke = (tt, (refl, (refl, (tt, (tt, (tt, tt))))));
   heed = (tt, (tt, (tt, (tt, (refl, (tt, tt))))));
+  gossip = (tt, (tt, (tt, (tt, (tt, (tt, tt))))));
+  choice = (tt, (tt, (tt, (tt, (tt, (tt, tt))))));
 }
 
 pub poke_lawful : Lawful poker (read poke_script poke_events)
 poke_lawful = record {
-  script = (record { below = omega arith; at_home = tt; command = tt }, (record { below = omega arith; at_home = tt; command = tt }, (record { below = omega arith; at_home = refl; command = tt }, (record { below = omega arith; at_home = tt; command = tt }, (record { below = omega arith; at_home = tt; command = tt }, (record { below = omega arith; at_home = tt; command = record { home = refl; asked = order.Kill 1 15; next = refl; suits = (refl, refl); enabled = tt; pid = tt } }, (record { below = omega arith; at_home = tt; command = record { home = refl; asked = order.Run []; next = refl; suits = tt; enabled = tt; pid = refl } }, tt)))))));
+  script = (record { below = omega arith; at_home = tt; command = tt }, (record { below = omega arith; at_home = tt; command = tt }, (record { below = omega arith; at_home = refl; command = tt }, (record { below = omega arith; at_home = tt; command = tt }, (record { below = omega arith; at_home = tt; command = tt }, (record { below = omega arith; at_home = tt; command = record { home = refl; asked = order.Kill 1 15; next = refl; suits = (refl, refl); enabled = tt; pid = tt } }, (record { below = omega arith; at_home = tt; command = record { home = refl; asked = order.Run []; next = refl; suits = tt; enabled = λ z. cc; pid = refl } }, tt)))))));
   place = (refl, (refl, (tt, (refl, (tt, (tt, (refl, tt)))))));
   news = (tt, (tt, (tt, (tt, (tt, (tt, (tt, tt)))))));
   freeze = ((refl, refl), ((refl, refl, tt), (tt, ((refl, refl), (tt, (tt, (tt, tt)))))));
-  once = (record { least = omega arith; most = omega arith; user = _; has = refl; whole = inr (inl refl) }, ((refl, refl, refl), (record { waits = refl; kind = refl; first = refl; number_is = refl; reply = refl; end_is = refl }, (tt, (tt, (tt, (tt, tt)))))));
+  once = (record { least = omega arith; most = omega arith; user = _; has = refl; whole = inr (inl refl) }, ((refl, refl, refl), (record { waits = refl; kind = refl; first = refl; number_is = refl; value_is = refl; reply = refl; end_is = refl }, (tt, (tt, (tt, (tt, tt)))))));
   signal = (tt, (tt, (record { takes = refl; more_is = refl }, (tt, (tt, (tt, (tt, tt)))))));
-  poke = (tt, (tt, (record { user = _; has = refl; pokes = refl }, (tt, (tt, (refl, (tt, tt)))))));
+  poke = (tt, (tt, (refl, (tt, (tt, (refl, (tt, tt)))))));
   heed = (refl, (tt, (tt, (refl, ((refl, refl), (tt, (tt, tt)))))));
+  gossip = ((λ z. omega arith), (tt, (tt, (tt, (tt, (tt, (tt, tt)))))));
+  choice = (tt, (tt, (tt, (tt, (tt, (tt, (tt, tt)))))));
 }
 
 -- the last one may be left out: what is left is a beginning of the run

@@ -1,7 +1,7 @@
 -- What the letters of a move's errand tell of the places that their process was at, link by link.
 use Rattle.std.proofs.Common.{◌≡◌, ℕ, ◌==◌, ◌&&◌, inl, inr, Bool, true, false, cond, Option, Some, None, List, [], ◌∷◌, ◌++◌, refl, ap, subst, arith}
 use Rattle.run_tokens.specs.Ops.{Ops, Sound}
-use Rattle.run_tokens.specs.Notes.{Note, Call, Pause, Reply, Poke, Go, NotHere, Ask, Allow, Deny, Move, Landed, NoMove, Post, Believed}
+use Rattle.run_tokens.specs.Notes.{Note, Call, Pause, Reply, Poke, Half, Go, NotHere, Ask, Allow, Deny, Move, Landed, NoMove, Post, Believed}
 use Rattle.run_tokens.specs.Spots.{Spot, Nowhere, mine}
 use Rattle.run_tokens.specs.Cluster.{for_link}
 use Rattle.run_tokens.specs.Home.{pokes, line_closed}
@@ -16,6 +16,7 @@ module _ (O : Ops) (S : Sound O) where
   NoteOk sp mv a b (Pause p r) = Unit {0}
   NoteOk sp mv a b (Reply p d) = Unit {0}
   NoteOk sp mv a b (Poke p) = Unit {0}
+  NoteOk sp mv a b (Half places) = Unit {0}
   NoteOk sp mv a b (Go p to h line) = Ok O S sp (sp p) (mv p) b h × (a ≡ 0)
   NoteOk sp mv a b (NotHere p to h line) = (x : ℕ) → Ok O S sp (sp p) (mv p) x h
   NoteOk sp mv a b (Ask p need) = Unit {0}
@@ -34,6 +35,7 @@ module _ (O : Ops) (S : Sound O) where
   note_next sp next mv mv2 f a b (Pause p r) k = tt
   note_next sp next mv mv2 f a b (Reply p d) k = tt
   note_next sp next mv mv2 f a b (Poke p) k = tt
+  note_next sp next mv mv2 f a b (Half places) k = tt
   note_next sp next mv mv2 f a b (Go p to h line) k = (f p b h k.0, k.1)
   note_next sp next mv mv2 f a b (NotHere p to h line) k = λ x. f p x h (k x)
   note_next sp next mv mv2 f a b (Ask p need) k = tt
@@ -72,6 +74,7 @@ module _ (O : Ops) (S : Sound O) where
   is_go x (Pause p r) = false
   is_go x (Reply p d) = false
   is_go x (Poke p) = false
+  is_go x (Half places) = false
   is_go x (Go p to h line) = p == x
   is_go x (NotHere p to h line) = false
   is_go x (Ask p need) = false
@@ -135,6 +138,7 @@ module _ (O : Ops) (S : Sound O) where
   note_nogo sp mv x a b (Pause p r) e f k = refl
   note_nogo sp mv x a b (Reply p d) e f k = refl
   note_nogo sp mv x a b (Poke p) e f k = refl
+  note_nogo sp mv x a b (Half places) e f k = refl
   note_nogo sp mv x a b (Go p to h line) e f k = other_numbers p x (λ z. none (subst (λ (y : Spot O). Ok O S sp y (mv x) b h) e (subst (λ (y : ℕ). Ok O S sp (sp y) (mv y) b h) z k.0)))
     where
       none : Ok O S sp Nowhere (mv x) b h → ⊥
@@ -159,6 +163,7 @@ module _ (O : Ops) (S : Sound O) where
   Plain (Pause p r) = Unit {0}
   Plain (Reply p d) = Unit {0}
   Plain (Poke p) = Unit {0}
+  Plain (Half places) = Unit {0}
   Plain (Go p to h line) = ⊥
   Plain (NotHere p to h line) = ⊥
   Plain (Ask p need) = Unit {0}
@@ -177,6 +182,7 @@ module _ (O : Ops) (S : Sound O) where
   plain_ok sp mv a b (Pause p r) k = tt
   plain_ok sp mv a b (Reply p d) k = tt
   plain_ok sp mv a b (Poke p) k = tt
+  plain_ok sp mv a b (Half places) k = tt
   plain_ok sp mv a b (Go p to h line) k = absurd k
   plain_ok sp mv a b (NotHere p to h line) k = absurd k
   plain_ok sp mv a b (Ask p need) k = tt
@@ -191,6 +197,7 @@ module _ (O : Ops) (S : Sound O) where
   plain_nogo y (Pause p r) k = refl
   plain_nogo y (Reply p d) k = refl
   plain_nogo y (Poke p) k = refl
+  plain_nogo y (Half places) k = refl
   plain_nogo y (Go p to h line) k = absurd k
   plain_nogo y (NotHere p to h line) k = refl
   plain_nogo y (Ask p need) k = refl

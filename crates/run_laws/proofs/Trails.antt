@@ -1,7 +1,7 @@
 -- The letters of moves and home's belief, over every run.
 use Rattle.std.proofs.Common.{◌≡◌, ◌≢◌, ℕ, ◌+◌, ◌<◌, ◌≤◌, ◌==◌, ◌&&◌, ◌⊎◌, inl, inr, Bool, true, false, cond, Option, Some, None, List, [], ◌∷◌, ◌++◌, refl, sym, ap, ◌∙◌, subst, arith}
 use Rattle.run_tokens.specs.Ops.{Ops, Sound, is_child}
-use Rattle.run_tokens.specs.Deeds.{Manner, Did, Broke, Fell, Paused, Deed, Run, Kill, Bid, Unsent, Other, Steps, Sent, Heed, Held, Served, Got, Poked, Begin, Keep, Missed, Again, Allows, Denies, Depart, Stay, Land, Told, Refused, Closed, Strange, pid_of, child_of}
+use Rattle.run_tokens.specs.Deeds.{ForLine, Chosen, Manner, Did, Broke, Fell, Paused, Deed, Run, Kill, Bid, Unsent, Other, Steps, Sent, Heed, Held, Served, Got, Poked, Begin, Keep, Missed, Again, Allows, Denies, Depart, Stay, Land, Told, Refused, Closed, Gossips, Strange, pid_of, child_of}
 use Rattle.run_tokens.specs.Notes.{Done, Call, Reply, Poke, Go, Ask, Move, NoMove, Post, Turn, letter, Body, Kept, Local, Believed, way}
 use Rattle.run_tokens.specs.Spots.{Spot, Nowhere, Runs, Calls, Holds, Pauses, Answered, Asks, Granted, Denied, Travels, InReply, Ended, site, way_by, mine}
 use Rattle.run_tokens.specs.Cluster.{World, for_link, at_front, Goes}
@@ -17,7 +17,7 @@ use Rattle.run_tokens.proofs.Coupling.{Part, Own, Child, Rest, part, got_brings}
 use Rattle.run_tokens.proofs.Quiet.{nowhere, nowhere_so, counts, child_so, home_so, count_typed}
 use Rattle.run_tokens.proofs.Stand.{Stands, Step, Path, child_apart}
 use Rattle.run_laws.proofs.Moves.{Balanced, path_balanced}
-use Rattle.run_laws.proofs.Replay.{alive}
+use Rattle.run_tokens.specs.Needs.{alive}
 use Rattle.run_laws.proofs.Played.{path_played}
 use Rattle.run_laws.proofs.Hops.{AtPlace, Ok, Inside, asked_brings, was_inside, inside_next, ok_next, step_bring, was_child, is_own, is_rest, is_born, moves_of}
 use Rattle.std.specs.Prelude.{ℤ}
@@ -118,8 +118,7 @@ module _ (O : Ops) (S : Sound O) where
     served_plain Did x number value child signal ends more poked (inr d) = subst (AllPlain O S) (sym d.base.posts) (tt, pokes_plain O S t.event.stamp old.believed poked)
     served_plain Broke x number value child signal ends more poked (inl d) = subst (AllPlain O S) (sym d.base.posts) (tt, pokes_plain O S t.event.stamp old.believed poked)
     served_plain Broke x number value child signal ends more poked (inr d) = subst (AllPlain O S) (sym d.base.posts) (tt, pokes_plain O S t.event.stamp old.believed poked)
-    served_plain Fell x number value child signal ends more poked (inl d) = subst (AllPlain O S) (sym d.base.posts) (tt, pokes_plain O S t.event.stamp old.believed poked)
-    served_plain Fell x number value child signal ends more poked (inr d) = subst (AllPlain O S) (sym d.base.posts) (tt, pokes_plain O S t.event.stamp old.believed poked)
+    served_plain Fell x number value child signal ends more poked d = subst (AllPlain O S) (sym d.base.posts) (tt, pokes_plain O S t.event.stamp old.believed poked)
     served_plain Paused x number value child signal ends more poked d = subst (AllPlain O S) (sym d.base.posts) (tt, pokes_plain O S t.event.stamp old.believed poked)
 
     home_belief : n ≡ 0 → (q : ℕ) → (sp q ≡ Nowhere → ⊥) → Ok O S sp (sp q) (mv q) (old.believed q).place (old.believed q).hops
@@ -143,7 +142,9 @@ module _ (O : Ops) (S : Sound O) where
     posts_ok (Got p child ended kept) is d need = plains _ d.base.posts (got_plain p d.body d.keeps d.done)
     posts_ok (Poked p true) is d need = plains _ d.base.posts tt
     posts_ok (Poked p false) is d need = plains _ d.base.posts tt
-    posts_ok (Begin p to line) is d need = plains _ d.base.posts (tt, tt)
+    posts_ok (Begin p to (ForLine line)) is d need = plains _ d.base.posts (tt, tt)
+    posts_ok (Begin p to (Chosen false other)) is d need = plains _ d.base.posts (tt, (tt, tt))
+    posts_ok (Begin p to (Chosen true other)) is d need = plains _ d.base.posts (tt, tt)
     posts_ok (Keep p to line) is d need = plains _ d.base.posts tt
     posts_ok (Missed p to line) is d need = by_posts _ d.base.posts ((λ x. next_ok p x d.hops (late x taken.0)), tt)
       where
@@ -182,6 +183,8 @@ module _ (O : Ops) (S : Sound O) where
     posts_ok (Refused p to why line) is (inl d) need = plains _ d.base.posts (tt, tt)
     posts_ok (Refused p to why line) is (inr d) need = plains _ d.base.posts tt
     posts_ok (Closed line) is d need = plains _ d.base.posts tt
+    posts_ok (Gossips false other) is d need = plains _ d.base.posts (tt, tt)
+    posts_ok (Gossips true other) is d need = plains _ d.base.posts tt
     posts_ok (Strange p) is d need = absurd need
 
     letters_next : (a b : ℕ) → EachOk O S next mv2 (v.links a b)
@@ -252,17 +255,9 @@ module _ (O : Ops) (S : Sound O) where
             same_site : (g : Bool) (m : ℕ) (b : Body O) (k : Option Kept) (r : O.Request) → m ≡ site O (asked O g m b k r)
             same_site true m b k r = refl
             same_site false m b k r = refl
-    served_from Fell x number value child signal ends more poked c e (inl d) need = (d.from, asked_site need (way_tells O x (sp x) (way O d.from n (Call x d.request)) (took_way O x (sp x) w v (stands.at x) _ _ (in_out O w t v goes x _ _ (pokes O t.event.stamp old.believed poked) d.base.took d.base.posts (same_numbers x x refl) (same_numbers x x refl) (pokes_loose O x t.event.stamp old.believed poked)))), d.believed)
+    served_from Fell x number value child signal ends more poked c e d need = (d.from, asked_site need (way_tells O x (sp x) (way O d.from n (Call x d.request)) (took_way O x (sp x) w v (stands.at x) _ _ (in_out O w t v goes x _ _ (pokes O t.event.stamp old.believed poked) d.base.took d.base.posts (same_numbers x x refl) (same_numbers x x refl) (pokes_loose O x t.event.stamp old.believed poked)))), d.believed)
       where
         asked_site : ServedCall O n x Fell number value child signal ends more poked old new (sp x) st.own → ((body : Body O) × (kept : Option Kept) × (sp x ≡ Calls d.from body kept d.request) × (n ≡ 0)) → site O st.own ≡ d.from
-        asked_site y told = ap (site O) y.now ∙ (same_site y.held y.from y.body y.kept y.request ∙ (sym (ap (site O) y.was) ∙ ap (site O) told.2))
-          where
-            same_site : (g : Bool) (m : ℕ) (b : Body O) (k : Option Kept) (r : O.Request) → m ≡ site O (asked O g m b k r)
-            same_site true m b k r = refl
-            same_site false m b k r = refl
-    served_from Fell x number value child signal ends more poked c e (inr d) need = (d.from, asked_site need (call_tells O x (sp x) w (stands.at x) n d.home (record { from = d.from; request = d.request }) d.was), d.believed)
-      where
-        asked_site : ServedCall O n x Fell number value child signal ends more poked old new (sp x) st.own → ((body : Body O) × (kept : Option Kept) × (sp x ≡ Holds d.from body kept d.request)) → site O st.own ≡ d.from
         asked_site y told = ap (site O) y.now ∙ (same_site y.held y.from y.body y.kept y.request ∙ (sym (ap (site O) y.was) ∙ ap (site O) told.2))
           where
             same_site : (g : Bool) (m : ℕ) (b : Body O) (k : Option Kept) (r : O.Request) → m ≡ site O (asked O g m b k r)
@@ -275,8 +270,7 @@ module _ (O : Ops) (S : Sound O) where
     served_same Did x number value signal ends more poked (inr d) q = d.believed q
     served_same Broke x number value signal ends more poked (inl d) q = d.believed q
     served_same Broke x number value signal ends more poked (inr d) q = d.believed q
-    served_same Fell x number value signal ends more poked (inl d) q = d.believed q
-    served_same Fell x number value signal ends more poked (inr d) q = d.believed q
+    served_same Fell x number value signal ends more poked d q = d.believed q
     served_same Paused x number value signal ends more poked d q = d.believed q
 
     abbrev Belief : ℕ → Type 0
@@ -385,7 +379,7 @@ module _ (O : Ops) (S : Sound O) where
     belief_next (Got p child ended kept) is d need q some = belief_stays (ap O.count d.still.kernel) d.still.believed q some
     belief_next (Poked p true) is d need q some = belief_stays (ap O.count d.still.kernel) d.still.believed q some
     belief_next (Poked p false) is d need q some = belief_stays (ap O.count d.still.kernel) d.still.believed q some
-    belief_next (Begin p to line) is d need q some = belief_stays (ap O.count d.still.kernel) d.still.believed q some
+    belief_next (Begin p to reason) is d need q some = belief_stays (ap O.count d.still.kernel) d.still.believed q some
     belief_next (Keep p to line) is d need q some = belief_stays (ap O.count d.still.kernel) d.still.believed q some
     belief_next (Missed p to line) is d need q some = belief_stays (ap O.count d.still.kernel) d.still.believed q some
     belief_next (Again p to place line) is d need q some = belief_stays (ap O.count d.still.kernel) d.still.believed q some
@@ -398,6 +392,7 @@ module _ (O : Ops) (S : Sound O) where
     belief_next (Refused p to why line) is (inl d) need q some = belief_stays (ap O.count d.still.kernel) d.still.believed q some
     belief_next (Refused p to why line) is (inr d) need q some = belief_stays (ap O.count d.still.kernel) d.still.believed q some
     belief_next (Closed line) is d need q some = belief_stays (ap O.count d.still.kernel) d.still.believed q some
+    belief_next (Gossips heard other) is d need q some = belief_stays (ap O.count d.still.kernel) d.still.believed q some
     belief_next (Strange p) is d need q some = belief_stays (ap O.count d.still.kernel) d.still.believed q some
 
     -- a spot that brings a child has its reply on the link to its site
@@ -434,8 +429,7 @@ module _ (O : Ops) (S : Sound O) where
     served_taken Did x number value child signal ends more poked (inr d) = took_of x _ d.base.took tt
     served_taken Broke x number value child signal ends more poked (inl d) = took_of x _ d.base.took refl
     served_taken Broke x number value child signal ends more poked (inr d) = took_of x _ d.base.took tt
-    served_taken Fell x number value child signal ends more poked (inl d) = took_of x _ d.base.took refl
-    served_taken Fell x number value child signal ends more poked (inr d) = took_of x _ d.base.took tt
+    served_taken Fell x number value child signal ends more poked d = took_of x _ d.base.took refl
     served_taken Paused x number value child signal ends more poked d = took_of x _ d.base.took refl
 
     taken_of : (what : Deed) → Does O what n old t new → what ≡ t.event.what → ((q : ℕ) → what ≡ Strange q → ⊥) → TakenOf O (pid_of what) t.taken
@@ -452,7 +446,9 @@ module _ (O : Ops) (S : Sound O) where
     taken_of (Got p child ended kept) d is bar = took_of p _ d.base.took refl
     taken_of (Poked p true) d is bar = took_of p _ d.base.took tt
     taken_of (Poked p false) d is bar = took_of p _ d.base.took tt
-    taken_of (Begin p to line) d is bar = took_of p _ d.base.took tt
+    taken_of (Begin p to (ForLine line)) d is bar = took_of p _ d.base.took tt
+    taken_of (Begin p to (Chosen false other)) d is bar = took_of p _ d.base.took tt
+    taken_of (Begin p to (Chosen true other)) d is bar = took_of p _ d.base.took tt
     taken_of (Keep p to line) d is bar = took_of p _ d.base.took tt
     taken_of (Missed p to line) d is bar = took_of p _ d.base.took tt
     taken_of (Again p to place line) d is bar = took_of p _ d.base.took tt
@@ -465,6 +461,8 @@ module _ (O : Ops) (S : Sound O) where
     taken_of (Refused p to why line) (inl d) is bar = took_of p _ d.base.took tt
     taken_of (Refused p to why line) (inr d) is bar = took_of p _ d.base.took tt
     taken_of (Closed line) d is bar = took_of 0 _ d.base.took tt
+    taken_of (Gossips false other) d is bar = took_of 0 _ d.base.took tt
+    taken_of (Gossips true other) d is bar = took_of 0 _ d.base.took tt
     taken_of (Strange p) d is bar = absurd (bar p refl)
 
     bring_none : (x : ℕ) (a s : Spot O) (A : Type 0) → s ≡ a → brings O a ≡ None → brings O s ≡ Some x → A
@@ -491,7 +489,7 @@ module _ (O : Ops) (S : Sound O) where
     not_taken (Got p child ended kept) d need x h bar = absurd (bar (sym (got_brings O n old new (sp p) st.own p child ended kept need.is).0 ∙ h))
     not_taken (Poked p true) d need x h bar = took_not p _ d.base.took refl
     not_taken (Poked p false) d need x h bar = took_not p _ d.base.took refl
-    not_taken (Begin p to line) d need x h bar = bring_none x _ (sp p) _ need.is.was refl h
+    not_taken (Begin p to reason) d need x h bar = bring_none x _ (sp p) _ need.is.was refl h
     not_taken (Keep p to line) d need x h bar = took_not p _ d.base.took refl
     not_taken (Missed p to line) d need x h bar = took_not p _ d.base.took refl
     not_taken (Again p to place line) d need x h bar = took_not p _ d.base.took refl
@@ -504,6 +502,8 @@ module _ (O : Ops) (S : Sound O) where
     not_taken (Refused p to why line) (inl d) need x h bar = took_not p _ d.base.took refl
     not_taken (Refused p to why line) (inr d) need x h bar = took_not p _ d.base.took refl
     not_taken (Closed line) d need x h bar = took_not 0 _ d.base.took refl
+    not_taken (Gossips false other) d need x h bar = took_not 0 _ d.base.took tt
+    not_taken (Gossips true other) d need x h bar = took_not 0 _ d.base.took refl
     not_taken (Strange p) d need x h bar = absurd need
 
     strange_not : (q : ℕ) → t.event.what ≡ Strange q → ⊥
@@ -548,7 +548,7 @@ module _ (O : Ops) (S : Sound O) where
     child_plain (Served p manner number value child signal ends more poked) d c e = all_nogo O S c t.posted (served_plain manner p number value child signal ends more poked d)
     child_plain (Got p child ended kept) d c e = subst (NoGo O S c) (sym d.base.posts) (all_nogo O S c _ (got_plain p d.body d.keeps d.done))
     child_plain (Poked p used) d c e = absurd cc
-    child_plain (Begin p to line) d c e = absurd cc
+    child_plain (Begin p to reason) d c e = absurd cc
     child_plain (Keep p to line) d c e = absurd cc
     child_plain (Missed p to line) d c e = absurd cc
     child_plain (Again p to place line) d c e = absurd cc
@@ -560,6 +560,7 @@ module _ (O : Ops) (S : Sound O) where
     child_plain (Told p at source hops line poked) d c e = absurd cc
     child_plain (Refused p to why line) d c e = absurd cc
     child_plain (Closed line) d c e = absurd cc
+    child_plain (Gossips heard other) d c e = absurd cc
     child_plain (Strange p) d c e = absurd cc
 
     behind_next : (x q : ℕ) (u : O.User) → next x ≡ InReply q u → Part O t.event.what n sp st.own x → ReplyFirst O S q x (v.links 0 (site O (next q)))
@@ -641,7 +642,7 @@ module _ (O : Ops) (S : Sound O) where
     hops_grow (Got p child ended kept) d need q = grows_same q (home_same d.still.believed q)
     hops_grow (Poked p true) d need q = grows_same q (home_same d.still.believed q)
     hops_grow (Poked p false) d need q = grows_same q (home_same d.still.believed q)
-    hops_grow (Begin p to line) d need q = grows_same q (home_same d.still.believed q)
+    hops_grow (Begin p to reason) d need q = grows_same q (home_same d.still.believed q)
     hops_grow (Keep p to line) d need q = grows_same q (home_same d.still.believed q)
     hops_grow (Missed p to line) d need q = grows_same q (home_same d.still.believed q)
     hops_grow (Again p to place line) d need q = grows_same q (home_same d.still.believed q)
@@ -654,12 +655,13 @@ module _ (O : Ops) (S : Sound O) where
     hops_grow (Refused p to why line) (inl d) need q = grows_same q (home_same d.still.believed q)
     hops_grow (Refused p to why line) (inr d) need q = grows_same q (home_same d.still.believed q)
     hops_grow (Closed line) d need q = grows_same q (home_same d.still.believed q)
+    hops_grow (Gossips heard other) d need q = grows_same q (home_same d.still.believed q)
     hops_grow (Strange p) d need q = grows_same q (home_same d.still.believed q)
 
   pub path_lives : (h : List (Turn O)) (sp : ℕ → Spot O) (w : World O) → Path O S h sp w → (q : ℕ) → O.live (w.nodes 0).kernel q ≡ true → sp q ≡ Nowhere → ⊥
   path_lives h sp w r q live none =
       let b = path_played O S h sp w r in
-      let z : true ≡ false = sym live ∙ (ap (λ (k : O.Kernel). O.live k q) b.agrees.kernel ∙ (b.agrees.alive q ∙ ap (alive O S) none)) in cc
+      let z : true ≡ false = sym live ∙ (ap (λ (k : O.Kernel). O.live k q) b.agrees.kernel ∙ (b.agrees.alive q ∙ ap (alive O) none)) in cc
 
   pub path_trails : (h : List (Turn O)) (sp : ℕ → Spot O) (w : World O) → Path O S h sp w → Trails h sp w
   path_trails [] sp w r = record {

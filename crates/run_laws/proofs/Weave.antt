@@ -10,7 +10,7 @@ use Rattle.run_tokens.proofs.Talk.{same_numbers, numbers_same}
 use Rattle.run_laws.proofs.Carried.{Lies, carried_reached}
 use Rattle.run_laws.proofs.Stamps.{later_by}
 use Rattle.run_tokens.specs.Ops.{Ops}
-use Rattle.run_tokens.specs.Deeds.{Manner, Did as DidCall, Broke, Fell, Paused, Deed, Run, Kill, Bid, Unsent, Other, Steps, Sent, Heed, Held, Served, Got, Poked, Begin, Keep, Missed, Again, Allows, Denies, Depart, Stay, Land, Told, Refused, Closed, Strange, Noted}
+use Rattle.run_tokens.specs.Deeds.{ForLine, Chosen, Manner, Did as DidCall, Broke, Fell, Paused, Deed, Run, Kill, Bid, Unsent, Other, Steps, Sent, Heed, Held, Served, Got, Poked, Begin, Keep, Missed, Again, Allows, Denies, Depart, Stay, Land, Told, Refused, Closed, Gossips, Strange, Noted}
 use Rattle.run_tokens.specs.Home.{after, pokes, line_closed}
 use Rattle.std.specs.Prelude.{ℤ}
 use Rattle.call_table.specs.declared.process.End.{End}
@@ -115,8 +115,7 @@ module _ (O : Ops) where
   served_marks DidCall n p number value child signal ends more poked old t new (inr d) = marks_by n t p _ _ _ _ _ old new d.base ((refl, refl), pokes_from n t.event.stamp old.believed poked d.home) tt
   served_marks Broke n p number value child signal ends more poked old t new (inl d) = marks_by n t p _ _ _ _ _ old new d.base ((refl, refl), pokes_from n t.event.stamp old.believed poked d.home) refl
   served_marks Broke n p number value child signal ends more poked old t new (inr d) = marks_by n t p _ _ _ _ _ old new d.base ((refl, refl), pokes_from n t.event.stamp old.believed poked d.home) tt
-  served_marks Fell n p number value child signal ends more poked old t new (inl d) = marks_by n t p _ _ _ _ _ old new d.base ((refl, refl), pokes_from n t.event.stamp old.believed poked d.home) refl
-  served_marks Fell n p number value child signal ends more poked old t new (inr d) = marks_by n t p _ _ _ _ _ old new d.base ((refl, refl), pokes_from n t.event.stamp old.believed poked d.home) tt
+  served_marks Fell n p number value child signal ends more poked old t new d = marks_by n t p _ _ _ _ _ old new d.base ((refl, refl), pokes_from n t.event.stamp old.believed poked d.home) refl
   served_marks Paused n p number value child signal ends more poked old t new d = marks_by n t p _ _ _ _ _ old new d.base ((refl, refl), pokes_from n t.event.stamp old.believed poked d.home) refl
 
   marks : (what : Deed) (n : ℕ) (old : Local O) (t : Turn O) (new : Local O) → Does O what n old t new → Marks n t
@@ -132,7 +131,9 @@ module _ (O : Ops) where
   marks (Got p child ended kept) n old t new d = marks_by n t p _ _ _ _ _ old new d.base (got_from n t.event.stamp p d.body d.keeps d.done) refl
   marks (Poked p true) n old t new d = marks_by n t p _ _ _ _ _ old new d.base tt refl
   marks (Poked p false) n old t new d = marks_by n t p _ _ _ _ _ old new d.base tt refl
-  marks (Begin p to line) n old t new d = marks_by n t p _ _ _ _ _ old new d.base ((refl, refl), tt) refl
+  marks (Begin p to (ForLine line)) n old t new d = marks_by n t p _ _ _ _ _ old new d.base ((refl, refl), tt) refl
+  marks (Begin p to (Chosen false other)) n old t new d = marks_by n t p _ _ _ _ _ old new d.base ((refl, refl), ((refl, refl), tt)) tt
+  marks (Begin p to (Chosen true other)) n old t new d = marks_by n t p _ _ _ _ _ old new d.base ((refl, refl), tt) refl
   marks (Keep p to line) n old t new d = marks_by n t p _ _ _ _ _ old new d.base tt refl
   marks (Missed p to line) n old t new d = marks_by n t p _ _ _ _ _ old new d.base ((refl, refl), tt) refl
   marks (Again p to place line) n old t new d = marks_by n t p _ _ _ _ _ old new d.base ((refl, refl), tt) refl
@@ -142,6 +143,8 @@ module _ (O : Ops) where
   marks (Stay p to need free) n old t new d = marks_by n t p _ _ _ _ _ old new d.base (closed_from n t.event.stamp d.line) refl
   marks (Land p source) n old t new d = marks_by n t p _ _ _ _ _ old new d.base ((refl, refl), tt) refl
   marks (Closed line) n old t new d = marks_by n t 0 _ _ _ _ _ old new d.base tt refl
+  marks (Gossips false other) n old t new d = marks_by n t 0 _ _ _ _ _ old new d.base ((refl, refl), tt) tt
+  marks (Gossips true other) n old t new d = marks_by n t 0 _ _ _ _ _ old new d.base tt refl
   marks (Strange p) n old t new d = marks_by n t p _ _ _ _ _ old new d.base tt refl
   marks (Told p at source hops line poked) n old t new d = marks_by n t p _ _ _ _ _ old new d.base (told_from n _ t.event.stamp p poked) refl
   marks (Served p manner number value child signal ends more poked) n old t new d = served_marks manner n p number value child signal ends more poked old t new d

@@ -9,12 +9,14 @@ use Rattle.run_tokens.proofs.Process.{context_tells}
 use Rattle.run_tokens.proofs.Stand.{reached_stands}
 use Rattle.run_laws.proofs.Replay.{user_of}
 use Rattle.run_laws.proofs.Played.{path_played}
-use Rattle.run_laws.proofs.Lawful.{path_lawful, path_placed}
+use Rattle.run_laws.proofs.Lawful.{path_lawful, path_silent, path_placed}
 use Rattle.run_laws.proofs.Lines.{one_outcome}
 use Rattle.run_laws.proofs.Again.{path_lines_of_moves}
 use Rattle.run_laws.proofs.Asking.{path_asking}
 use Rattle.run_laws.proofs.Landings.{path_landings}
 use Rattle.run_laws.proofs.Grounds.{path_grounded}
+use Rattle.run_laws.proofs.HonestVectors.{honest_law}
+use Rattle.run_laws.proofs.Owning.{owned}
 use Rattle.run_laws.proofs.Plays.{at_replay}
 
 module _ (O : Ops) (S : Sound O) where
@@ -31,10 +33,13 @@ module _ (O : Ops) (S : Sound O) where
           replies = b.agrees.replies;
         };
         lawful = path_lawful O S h s.spots w s.path;
+        silent = path_silent O S h s.spots w s.path;
+        honest = honest_law O (events O h);
         one_place = path_placed O S h s.spots w s.path s.stands;
         grounded = path_grounded O S h s.spots w s.path;
         move_lines = path_lines_of_moves O S h s.spots w s.path;
         asking = path_asking O S h s.spots w s.path;
         landings = path_landings O S h s.spots w s.path;
+        owned = owned O S h s.spots w s.path s.stands b.machine b.agrees;
         one_outcome = one_outcome O S h s.spots w s.path;
       }

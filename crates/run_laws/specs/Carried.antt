@@ -29,7 +29,16 @@ abbrev pub recorded : Noted → Deed → List Noted
 recorded e (Strange p) = []
 recorded e _ = e ∷ []
 
+-- the event of a letter that fits
+abbrev pub IsUsual : Deed → Type 0
+IsUsual (Strange p) = ⊥
+IsUsual _ = Unit {0}
+
 module _ (O : Ops) where
+  -- none of these turns skips a letter: `strange` is 0
+  abbrev pub NoneStrange : List (Turn O) → Type 0
+  NoneStrange turns = Each (λ t. IsUsual t.event.what) turns
+
   -- ys begins with xs
   abbrev pub Begins : List (Post O) → List (Post O) → Type 0
   Begins xs ys = (rest : List (Post O)) × (xs ++ rest ≡ ys)

@@ -1,7 +1,7 @@
 -- All that the events of a run tell of one process. The events stand the newest first.
 use Rattle.std.specs.Prelude.{ℕ, ◌+◌, ◌==◌, ◌&&◌, ◌||◌, Bool, true, false, not, cond, Option, Some, None, List, [], ◌∷◌}
 use Rattle.run_tokens.specs.Ops.{is_child}
-use Rattle.run_tokens.specs.Deeds.{Manner, Paused, KeptTold, Deed, Run, Sent, Heed, Held, Served, Got, Poked, Begin, Keep, Allows, Denies, Depart, Stay, Land, Noted, pid_of, child_of}
+use Rattle.run_tokens.specs.Deeds.{Manner, Paused, KeptTold, line_for, Deed, Run, Sent, Heed, Held, Served, Got, Poked, Begin, Keep, Allows, Denies, Depart, Stay, Land, Noted, pid_of, child_of}
 
 -- at a node, between two nodes, or in the answer of the fork that makes it
 pub data Place : Type 0 where
@@ -71,7 +71,7 @@ fact_own (Held p k) n f = record f { held = f.held + 1 }
 fact_own (Served p manner number value child signal ends more poked) n f = record f { served = f.served + 1; child = child; more = more }
 fact_own (Got p child ended kept) n f = record f { places = cond ended (without (Node n) f.places) f.places; waits = false; paused = false; served = 0; held = 0; child = None; kept = None; more = false; asks = asks_by kept f.asks; target = target_by kept f.target; owes = cond ended false (f.more || f.owes); line = cond ended None f.line }
 fact_own (Poked p used) n f = record f { owes = used || f.owes }
-fact_own (Begin p to line) n f = record f { asks = true; target = Some to; line = Some line }
+fact_own (Begin p to reason) n f = record f { asks = true; target = Some to; line = line_for reason }
 fact_own (Keep p to line) n f = record f { kept = Some to; line = Some line }
 fact_own (Allows p from need) n f = record f { allowed = true }
 fact_own (Denies p from need free) n f = record f { denial = Some (record { node = n; need = need; free = free }) }

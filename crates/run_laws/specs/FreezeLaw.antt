@@ -20,7 +20,7 @@ abbrev pub FreezeAt : Deed → Facts → Type 0
 FreezeAt (Steps p k) f = Free f
 FreezeAt (Sent p k) f = Free f
 FreezeAt (Heed p) f = Free f
-FreezeAt (Begin p to line) f = Free f
+FreezeAt (Begin p to reason) f = Free f
 FreezeAt (Keep p to line) f = (f.waits ≡ true) × (f.kept ≡ None)
 FreezeAt (Got p child ended kept) f = (f.waits ≡ true) × (kept_target kept ≡ f.kept) × KeptWord kept ended
 FreezeAt (Depart p to) f = f.asks ≡ true

@@ -1,7 +1,7 @@
 -- The grounds of each decision and each refusal, at its own prefix.
 use Rattle.std.specs.Prelude.{◌≡◌, ℕ, ◌<◌, ◌≤◌, Bool, true, false, Some, List, [], ◌∷◌}
 use Rattle.run_tokens.specs.Ops.{Ops}
-use Rattle.run_tokens.specs.Deeds.{Why, Gone, Moving, There, Deed, Unsent, Got, Allows, Denies, Stay, Refused, Closed, Noted}
+use Rattle.run_tokens.specs.Deeds.{Why, Gone, Moving, There, Deed, Bid, Unsent, Got, Allows, Denies, Stay, Refused, Closed, Noted}
 use Rattle.run_tokens.specs.Home.{HasEnded, UnsentFor}
 use Rattle.run_laws.specs.Machine.{MachineState}
 use Rattle.run_laws.specs.Schedule.{machine_at, With}
@@ -33,8 +33,9 @@ module _ (O : Ops) where
   EndedWhere true p m = HasEnded O m.kernel p
   EndedWhere false p m = O.live m.kernel p ≡ true
 
-  -- an event at node n, with the machine m before it
+  -- an event at node n, with the machine m before it; a move that is asked for is of a live process
   abbrev pub GroundedAt : Deed → ℕ → List Noted → MachineState O → Type 0
+  GroundedAt (Bid line p to) n before m = O.live m.kernel p ≡ true
   GroundedAt (Unsent line p never) n before m = UnsentFor O never m.kernel p
   GroundedAt (Got p child ended kept) n before m = EndedWhere ended p m
   GroundedAt (Allows p from need) n before m = RoomFor n p need before m

@@ -11,7 +11,7 @@ use Rattle.node_event.specs.declared.script.Order.TheVariants as order
 use Rattle.node_event.specs.declared.script.ScriptLine.{ScriptLine}
 use Rattle.run_tokens.specs.Ops.{Ops}
 use Rattle.run_tokens.specs.Deeds.{Noted, all_noted}
-use Rattle.run_laws.specs.SmallMachine.{ExitCall, ForkCall, ReadCall, WriteCall, Thing, Goes, Calls, Program, small}
+use Rattle.run_laws.specs.SmallMachine.{ExitCall, ForkCall, ReadCall, WriteCall, Thing, Goes, Calls, Program, no_choice, small_of, small}
 
 abbrev pub at : ℕ → ℕ → What → Event
 at stamp node w = record { stamp = stamp; node = node; what = w }
@@ -24,14 +24,14 @@ abbrev pub line : ℕ → Order → ScriptLine
 line n o = record { line = n; order = o }
 
 abbrev pub program : List Thing → Program
-program todo = record { pages = 1; todo = todo }
+program todo = record { pid = 0; pages = 1; todo = todo }
 
 -- a program that writes three bytes and exits
 abbrev pub hello_script : List ScriptLine
 hello_script = line 1 (order.Run []) ∷ []
 
 abbrev pub hello : Ops
-hello = small hello_script (program (Goes ∷ Goes ∷ Goes ∷ Goes ∷ Goes ∷ Calls (WriteCall 3) ∷ Goes ∷ Goes ∷ Calls (ExitCall 0) ∷ []) ∷ [])
+hello = small_of 1 no_choice hello_script (program (Goes ∷ Goes ∷ Goes ∷ Goes ∷ Goes ∷ Calls (WriteCall 3) ∷ Goes ∷ Goes ∷ Calls (ExitCall 0) ∷ []) ∷ [])
 
 abbrev pub hello_events : List Event
 hello_events =
@@ -64,7 +64,7 @@ twice_events =
     ∷ at 4 0 (what.Served 1 way.Did (Some 9) (Some (pos 3)) None None false None None)
     ∷ []
 
--- a program that forks and exits, and its child too
+-- a program that forks, and its child, which exits: its parent gets a signal, and is poked
 abbrev pub fork_script : List ScriptLine
 fork_script = line 1 (order.Run []) ∷ []
 
@@ -78,7 +78,7 @@ fork_events =
     ∷ at 3 0 (what.Served 1 way.Did (Some 4) (Some (pos 2)) None None false None None)
     ∷ at 4 0 (what.Got 1 (Some 2) false None None)
     ∷ at 5 0 (what.Sent 2 1)
-    ∷ at 6 0 (what.Served 2 way.Did (Some 1) (Some (pos 0)) None (Some (end.Exit 7)) false None None)
+    ∷ at 6 0 (what.Served 2 way.Did (Some 1) (Some (pos 0)) None (Some (end.Exit 7)) false (Some 1) None)
     ∷ at 7 0 (what.Got 2 None true None None)
     ∷ []
 

@@ -10,6 +10,8 @@ use Rattle.run_laws.specs.OnceLaw.{OnceLaw}
 use Rattle.run_laws.specs.SignalLaw.{SignalLaw}
 use Rattle.run_laws.specs.PokeLaw.{PokeLaw}
 use Rattle.run_laws.specs.HeedLaw.{HeedLaw}
+use Rattle.run_laws.specs.GossipLaw.{GossipLaw}
+use Rattle.run_laws.specs.ChoiceLaw.{ChoiceLaw}
 
 pub record Lawful (O : Ops) (es : List Noted) : Type 0 where
   pub script : ScriptLaw O es
@@ -20,3 +22,5 @@ pub record Lawful (O : Ops) (es : List Noted) : Type 0 where
   pub signal : SignalLaw O es
   pub poke : PokeLaw O es
   pub heed : HeedLaw es
+  pub gossip : GossipLaw O es
+  pub choice : ChoiceLaw O es

@@ -7,6 +7,7 @@ pub mod FreezeLaw
 pub mod OnceLaw
 pub mod SignalLaw
 pub mod PokeLaw
+pub mod SilentLaw
 pub mod HeedLaw
 pub mod Believed
 pub mod NewsLaw
@@ -23,3 +24,16 @@ pub mod SmallMachine
 pub mod Histories
 pub mod Whole
 pub mod Carried
+pub mod Due
+pub mod Ends
+pub mod Owned
+pub mod Ending
+pub mod EndStories
+pub mod Going
+pub mod Loads
+pub mod Vectors
+pub mod GossipLaw
+pub mod ChoiceLaw
+pub mod Honest
+pub mod GossipStories
+pub mod WholeStory

@@ -1,5 +1,5 @@
 -- The machine of one node: one kernel, the user state of each pid ever given, and the replies. It knows no node and no letter.
-use Rattle.std.specs.Prelude.{ℕ, ◌+◌, ◌==◌, ℤ, nat_lt, cond, Option, Some, None, List, [], ◌∷◌, option_and_then}
+use Rattle.std.specs.Prelude.{ℕ, ◌+◌, ◌==◌, ℤ, nat_lt, cond, Option, Some, None, List, [], ◌∷◌, ◌++◌, option_and_then}
 use Rattle.run_tokens.specs.Ops.{Ops, Acted}
 
 pub record ReplyGiven : Type 0 where
@@ -18,6 +18,10 @@ pub data Step : Type 0 where
   Break : (pid : ℕ) → Step
   Take : (pid : ℕ) → Step
   Fall : (pid : ℕ) → Step
+
+abbrev pub listed : Option ℕ → List ℕ
+listed None = []
+listed (Some q) = q ∷ []
 
 module _ (O : Ops) where
   pub record MachineState : Type 0 where
@@ -55,7 +59,7 @@ module _ (O : Ops) where
   fed i m = cond (nat_lt i O.texts) (Some (with_kernel (O.feed m.kernel i) m)) None
 
   abbrev pub stepped : ℕ → ℕ → MachineState → Option MachineState
-  stepped p k m = of_live p m (λ u. option_and_then (λ x. Some (with_user p x m)) (O.went u k))
+  stepped p k m = cond (nat_lt 0 k) (of_live p m (λ u. option_and_then (λ x. Some (with_user p x m)) (O.went u k))) None
 
   abbrev pub did : ℕ → MachineState → Option MachineState
   did p m = of_live p m (λ u. option_and_then (λ r. cond (O.number r == 0) None (option_and_then (λ d. Some (with_child u d.child (with_user p (O.given u d.answer) (with_reply p r d.answer (with_kernel d.kernel m))))) (O.serve m.kernel p r))) (O.asks u))
@@ -84,6 +88,32 @@ module _ (O : Ops) where
   machine_step (Break p) m = broke p m
   machine_step (Take p) m = took p m
   machine_step (Fall p) m = fell p m
+
+  -- the pids at which a step raises a signal that they do not ignore
+  abbrev pub raised_do : Option (Acted O.Kernel O.Answer) → List ℕ
+  raised_do None = []
+  raised_do (Some d) = listed d.raised
+
+  abbrev pub raised_take : O.Kernel → ℕ → Option O.User → List ℕ
+  raised_take k p None = []
+  raised_take k p (Some u) = listed (O.take k p (O.room u)).raised
+
+  abbrev pub raised_fall : O.Kernel → ℕ → Option O.Request → List ℕ
+  raised_fall k p None = []
+  raised_fall k p (Some r) = listed (O.fall k p r).raised
+
+  abbrev pub raised_in : Step → MachineState → List ℕ
+  raised_in (Raise p s) m = listed (cond (O.hit m.kernel p s) (Some p) None)
+  raised_in (Do p) m = raised_do (option_and_then (λ r. O.serve m.kernel p r) (option_and_then O.asks (m.users p)))
+  raised_in (Take p) m = raised_take m.kernel p (m.users p)
+  raised_in (Fall p) m = raised_fall m.kernel p (option_and_then O.asks (m.users p))
+  raised_in _ m = []
+
+  -- and those at which steps do, from a machine on
+  abbrev pub raised_by : List Step → Option MachineState → List ℕ
+  raised_by [] m = []
+  raised_by (s ∷ ss) None = []
+  raised_by (s ∷ ss) (Some m) = raised_in s m ++ raised_by ss (machine_step s m)
 
   -- the first step stands first
   abbrev pub machine_steps : List Step → MachineState → Option MachineState

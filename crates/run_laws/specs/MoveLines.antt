@@ -1,11 +1,11 @@
 -- The lines of moves: an event that names a line of the script as that of a move has the process and the target that the line has.
 use Rattle.std.specs.Prelude.{List, [], ◌∷◌}
 use Rattle.run_tokens.specs.Ops.{Ops, IsMove}
-use Rattle.run_tokens.specs.Deeds.{Deed, Begin, Keep, Missed, Again, Refused, Noted}
+use Rattle.run_tokens.specs.Deeds.{ForLine, Deed, Begin, Keep, Missed, Again, Refused, Noted}
 
 module _ (O : Ops) where
   abbrev pub MoveLineAt : Deed → Type 0
-  MoveLineAt (Begin p to line) = IsMove O line p to
+  MoveLineAt (Begin p to (ForLine line)) = IsMove O line p to
   MoveLineAt (Keep p to line) = IsMove O line p to
   MoveLineAt (Missed p to line) = IsMove O line p to
   MoveLineAt (Again p to place line) = IsMove O line p to

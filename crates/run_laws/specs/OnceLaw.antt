@@ -27,6 +27,7 @@ module _ (O : Ops) where
     pub calls : f.paused ≡ false
     pub unserved : f.served ≡ 0
     pub first : f.held ≡ 0
+    pub call : number ≢ 0
     pub requests : Requests m p number
     pub blocks : O.serve m.kernel p requests.request ≡ None
     pub quiet : O.lowest m.kernel p ≡ None
@@ -36,12 +37,17 @@ module _ (O : Ops) where
   NumberIs Paused m p number = number ≡ None
   NumberIs manner m p number = (x : ℕ) × (number ≡ Some x) × FellFor manner x × Requests m p x
 
+  abbrev pub ValueIs : Manner → Option ℤ → Type 0
+  ValueIs Paused value = value ≡ None
+  ValueIs _ value = Unit {0}
+
   -- the value is that of the reply that the machine gains, the end the one that it gives
   pub record ServedOnce (p : ℕ) (manner : Manner) (number : Option ℕ) (value : Option ℤ) (ends : Option End) (f : Facts) (m m2 : MachineState O) : Type 0 where
     pub waits : f.waits ≡ true
     pub kind : f.paused ≡ is_paused manner
     pub first : f.served ≡ 0
     pub number_is : NumberIs manner m p number
+    pub value_is : ValueIs manner value
     pub reply : m2.replies ≡ told_so p number value m.replies
     pub end_is : ends ≡ O.end_of m2.kernel p
 

@@ -2,7 +2,7 @@
 use Rattle.std.specs.Prelude.{ℕ, ◌+◌, ◌-◌, ◌==◌, ◌&&◌, Bool, false, cond, Option, Some, None, List, [], ◌∷◌}
 use Rattle.run_tokens.specs.Ops.{Ops}
 use Rattle.run_tokens.specs.Deeds.{Deed, Allows, Land, Noted}
-use Rattle.run_tokens.specs.Does.{sum_below}
+use Rattle.run_tokens.specs.Ops.{sum_below}
 use Rattle.run_laws.specs.Machine.{MachineState}
 use Rattle.run_laws.specs.Facts.{Place, Node, facts}
 

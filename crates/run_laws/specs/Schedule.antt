@@ -2,7 +2,7 @@
 use Rattle.std.specs.Prelude.{ℕ, ℤ, Option, Some, None, List, [], ◌∷◌, ◌++◌}
 use Rattle.run_tokens.specs.Ops.{Ops}
 use Rattle.run_tokens.specs.Deeds.{Text, Finish, Manner, Did, Broke, Fell, Paused, Deed, Run, Kill, Other, Steps, Served, Noted}
-use Rattle.run_laws.specs.Machine.{ReplyGiven, Step, Launch, Raise, Feed, Eof, Advance, Do, Break, Take, Fall, MachineState, play}
+use Rattle.run_laws.specs.Machine.{ReplyGiven, Step, Launch, Raise, Feed, Eof, Advance, Do, Break, Take, Fall, MachineState, empty, play}
 
 -- what a served call does, and the signal that is taken after it
 abbrev pub call_step : Manner → ℕ → List Step
@@ -45,6 +45,14 @@ told (e ∷ before) = told_by e.what (told before)
 -- the machine after these events
 abbrev pub machine_at : (O : Ops) → List Noted → Option (MachineState O)
 machine_at O es = play O (schedule es)
+
+-- where the events play no machine, the empty one
+abbrev pub machine_or : (O : Ops) → Option (MachineState O) → MachineState O
+machine_or O None = empty O
+machine_or O (Some m) = m
+
+abbrev pub the_machine : (O : Ops) → List Noted → MachineState O
+the_machine O es = machine_or O (machine_at O es)
 
 -- there is such a thing, and it is so
 abbrev pub With : {A : Type 0} → Option A → (A → Type 0) → Type 0

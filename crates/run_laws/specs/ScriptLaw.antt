@@ -1,5 +1,5 @@
 -- Script: the commands are the lines of the script that do something, in their order, each where it is enabled; and every event is at a node of the cluster.
-use Rattle.std.specs.Prelude.{◌≡◌, ℕ, ◌+◌, ◌<◌, ◌≤◌, ◌==◌, ◌⊎◌, slice_get, true, cond, Option, Some, None, List, [], ◌∷◌}
+use Rattle.std.specs.Prelude.{◌≡◌, ◌≢◌, ℕ, ◌+◌, ◌<◌, ◌≤◌, ◌==◌, ◌⊎◌, slice_get, true, cond, Option, Some, None, List, [], ◌∷◌}
 use Rattle.node_event.specs.declared.script.Order.{Order}
 use Rattle.node_event.specs.declared.script.Order.TheVariants as order
 use Rattle.run_tokens.specs.Ops.{Ops}
@@ -71,6 +71,7 @@ AtHome _ n = Unit {0}
 module _ (O : Ops) where
   -- a line of the script is enabled
   abbrev pub Enabled : Order → List Noted → MachineState O → Type 0
+  Enabled (order.Run words) before m = O.launch m.kernel ≢ None
   Enabled (order.Wait p) before m = HasEnded O m.kernel p
   Enabled (order.After p k) before m = (k ≤ calls_served p before) ⊎ HasEnded O m.kernel p
   Enabled (order.Held p) before m = (is_held (facts p before) ≡ true) ⊎ HasEnded O m.kernel p

@@ -20,7 +20,7 @@ begun_by (Some x) k = cond x.ends k (k + 1)
 
 abbrev pub moves_own : Deed → Moves → Moves
 moves_own (Got p child ended kept) m = record m { begins = begun_by kept m.begins }
-moves_own (Begin p to line) m = record m { begins = m.begins + 1 }
+moves_own (Begin p to reason) m = record m { begins = m.begins + 1 }
 moves_own (Depart p to) m = record m { departs = m.departs + 1 }
 moves_own (Stay p to need free) m = record m { stays = m.stays + 1 }
 moves_own (Land p source) m = record m { lands = m.lands + 1 }

@@ -1,7 +1,7 @@
 -- A child that comes with an answer belongs to that answer alone.
 use Rattle.std.proofs.Common.{◌≡◌, ◌≢◌, ℕ, ◌==◌, Bool, true, false, cond, Option, Some, None, List, refl, sym, ap, ◌∙◌}
 use Rattle.run_tokens.specs.Ops.{Ops, is_child}
-use Rattle.run_tokens.specs.Deeds.{Manner, Did, Broke, Fell, Paused, KeptTold, Deed, Run, Kill, Bid, Unsent, Other, Steps, Sent, Heed, Held, Served, Got, Poked, Begin, Keep, Missed, Again, Allows, Denies, Depart, Stay, Land, Told, Refused, Closed, Strange, pid_of, child_of}
+use Rattle.run_tokens.specs.Deeds.{Manner, Did, Broke, Fell, Paused, KeptTold, Deed, Run, Kill, Bid, Unsent, Other, Steps, Sent, Heed, Held, Served, Got, Poked, Begin, Keep, Missed, Again, Allows, Denies, Depart, Stay, Land, Told, Refused, Closed, Gossips, Strange, pid_of, child_of}
 use Rattle.run_tokens.specs.Notes.{Done, Body, Kept, Local}
 use Rattle.run_tokens.specs.Spots.{Spot, Nowhere, Runs, Calls, Holds, Pauses, Answered, Asks, Granted, Denied, Travels, InReply, Ended}
 use Rattle.run_tokens.specs.Home.{returned, after}
@@ -120,7 +120,7 @@ module _ (O : Ops) where
     gentle (Got p child ended kept) h d = none_gentle s r (got_brings p child ended kept d.is).1 (λ q u e. let z = sym d.is.was ∙ e in cc)
     gentle (Poked p true) h d = mark_gentle s r d.is.now
     gentle (Poked p false) h d = same_gentle s r d.is.now
-    gentle (Begin p to line) h d = none_gentle s r (ap (brings O) d.is.now) (λ q u e. let z = sym d.is.was ∙ e in cc)
+    gentle (Begin p to reason) h d = none_gentle s r (ap (brings O) d.is.now) (λ q u e. let z = sym d.is.was ∙ e in cc)
     gentle (Keep p to line) h d = keep_gentle (record { to = to; line = line }) s r d.is.now
     gentle (Missed p to line) h d = same_gentle s r d.is.now
     gentle (Again p to place line) h d = same_gentle s r d.is.now
@@ -132,6 +132,7 @@ module _ (O : Ops) where
     gentle (Told p at source hops line poked) h d = same_gentle s r d.is.now
     gentle (Refused p to why line) h d = same_gentle s r d.is.now
     gentle (Closed line) h d = same_gentle s r d.is.now
+    gentle (Gossips heard other) h d = same_gentle s r d.is.now
     gentle (Strange p) h d = absurd d
 
   -- the spots after an event, at its process, at its child and elsewhere

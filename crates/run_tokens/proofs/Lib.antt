@@ -4,4 +4,9 @@ pub mod Own
 pub mod Run
 pub mod Quiet
 pub mod Coupling
+pub mod Alive
+pub mod Sums
 pub mod Stand
+pub mod Places
+pub mod Talking
+pub mod Progress

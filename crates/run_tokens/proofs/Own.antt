@@ -1,14 +1,14 @@
 -- One lemma for each kind of event: what it needs of its process's spot, and where the process is after it.
 use Rattle.std.proofs.Common.{◌≡◌, ◌≢◌, ℕ, ◌+◌, ◌==◌, ◌⊎◌, inl, inr, Bool, true, false, cond, Option, Some, None, List, [], ◌∷◌, refl, sym, ap, ◌∙◌, subst}
 use Rattle.run_tokens.specs.Ops.{Ops}
-use Rattle.run_tokens.specs.Deeds.{Manner, KeptTold}
+use Rattle.run_tokens.specs.Deeds.{Manner, KeptTold, Reason, ForLine, Chosen, line_for}
 use Rattle.run_tokens.specs.Notes.{Done, Call, Pause, Reply, Ask, Allow, Deny, Move, NoMove, Post, Turn, letter, Body, fresh, Kept, State, Running, Waiting, Asking, Context, context, Slot, Local, Way, way}
 use Rattle.run_tokens.specs.Spots.{Spot, Nowhere, Runs, Calls, Holds, Pauses, Answered, Asks, Granted, Denied, Travels, InReply, Ended, site, kept_at, goal, reserved, call_at, slot_by, way_by, mine}
 use Rattle.run_tokens.specs.Does.{Base, hosts, reserves, holds, lands, same, Launches, Stepped, Sends, Heeds, Holding, Serves, Retries, Pausing, Gets, Marks, Ignores, Begins, Keeps, Misses, Grants, Refuses, Departs, Stays, Lands, got_context, got_posts, Awake, Asleep}
 use Rattle.run_tokens.specs.Cluster.{World, Goes}
 use Rattle.run_tokens.specs.Home.{returned, after, done_of, last, first_none, pokes}
 use Rattle.run_tokens.specs.Needs.{got_spot, AwakeAt, FreeAt, AwayFrom, AsleepAt, mark, keep_in, Quiet, Launched, Ran, SentCall, Heeded, HeldCall, ServedCall, ServedPause, GotReply, Marked, Dropped, Begun, KeptMove, MissedIt, AllowedMove, DeniedMove, Departed, StayedHere, LandedHere}
-use Rattle.run_tokens.proofs.Talk.{same_numbers, Loose, pokes_loose, closed_loose, talk_loose, talk_own, heard_own, heard_loose}
+use Rattle.run_tokens.proofs.Talk.{same_numbers, Loose, pokes_loose, closed_loose, talk_loose, talk_own, talk_second, heard_own, heard_loose}
 use Rattle.run_tokens.proofs.Process.{cond_here, cond_off, cond_same, At, Letters, letters_of, took_way, way_tells, context_tells, call_tells, settle, settle_stay, rests}
 use Rattle.std.specs.Prelude.{ℤ}
 use Rattle.call_table.specs.declared.process.End.{End}
@@ -59,6 +59,9 @@ module _ (O : Ops) where
     pub in_out : (p : ℕ) (l m : Post O) (ls : List (Post O)) → t.taken ≡ Some l → t.posted ≡ m ∷ ls → mine O p l.note ≡ true → mine O p m.note ≡ true → Loose O p ls → Letters O p (Some (way O l.from l.to l.note)) (Some (way O m.from m.to m.note)) w v
     in_out p l m ls e f g h k = letters_of O p w t v goes (Some l) (m ∷ ls) e f (Some (way O l.from l.to l.note)) (Some (way O m.from m.to m.note)) (λ a b. heard_own O p a b l g) (λ a b. talk_own O p a b m ls h k)
 
+    sends_second : (p : ℕ) (l m : Post O) (ls : List (Post O)) → t.taken ≡ None → t.posted ≡ l ∷ m ∷ ls → mine O p l.note ≡ false → mine O p m.note ≡ true → Loose O p ls → Letters O p None (Some (way O m.from m.to m.note)) w v
+    sends_second p l m ls e f h g k = letters_of O p w t v goes None (l ∷ m ∷ ls) e f None (Some (way O m.from m.to m.note)) (λ a b. refl) (λ a b. talk_second O p a b l m ls h g k)
+
     itself : (p : ℕ) → (p == p) ≡ true
     itself p = same_numbers p p refl
 
@@ -99,7 +102,7 @@ module _ (O : Ops) where
           r,
           record { is = record { body = d.body; request = d.request; was = is; unpoked = d.unpoked; asks = d.asks; number_is = d.number_is; now = refl }; kernel = d.still.kernel },
           settle O w t v goes p (Runs n d.body) r here None _ (sends_out p _ [] d.base.took d.base.posts (itself p) tt) refl refl
-              (rehost p (Runs n d.body) r (Some (context O d.body (Waiting None))) here (own_slot p _ _ _ _ _ old t new d.base) (cond_here n _ _) refl refl)
+              (rehost p (Runs n d.body) r (Some (context O d.body (Waiting false None))) here (own_slot p _ _ _ _ _ old t new d.base) (cond_here n _ _) refl refl)
               (λ m ne. same_slot (slot_by O (Runs n d.body) m) (slot_by O r m) (off_both m n _ _ _ ne) refl refl),
         )
 
@@ -112,7 +115,7 @@ module _ (O : Ops) where
           r,
           record { is = record { body = d.body; was = is; poked = d.poked; now = refl }; kernel = d.still.kernel },
           settle O w t v goes p (Runs n d.body) r here None _ (sends_out p _ [] d.base.took d.base.posts (itself p) tt) refl refl
-              (rehost p (Runs n d.body) r (Some (context O b (Waiting None))) here (own_slot p _ _ _ _ _ old t new d.base) (cond_here n _ _) refl refl)
+              (rehost p (Runs n d.body) r (Some (context O b (Waiting true None))) here (own_slot p _ _ _ _ _ old t new d.base) (cond_here n _ _) refl refl)
               (λ m ne. same_slot (slot_by O (Runs n d.body) m) (slot_by O r m) (off_both m n _ _ _ ne) refl refl),
         )
 
@@ -193,8 +196,8 @@ module _ (O : Ops) where
         let j : context O b x ≡ context O c y = some_context (context O b x) (context O c y) (sym f ∙ i) in
         (ap (λ (k : Context O). k.body) j, ap (λ (k : Context O). k.state) j)
 
-    waiting_same : (x y : Option Kept) → Waiting x ≡ Waiting y → x ≡ y
-    waiting_same x y e = cc
+    waiting_same : (p q : Bool) (x y : Option Kept) → Waiting p x ≡ Waiting q y → (p ≡ q) × (x ≡ y)
+    waiting_same p q x y e = (cc, cc)
 
     asking_same : (to l : ℕ) (x y : Option ℕ) → Asking to x ≡ Asking l y → x ≡ y
     asking_same to l x y e = cc
@@ -250,12 +253,13 @@ module _ (O : Ops) where
         let mail = got_mail p d.body d.keeps d.done d.from d.stamp d.base.took d.base.posts in
         let told = way_tells O p s (way O d.from n (Reply p d.done)) (took_way O p s w v at _ mail.0 mail.1) in
         let here = subst (λ (k : Spot O). At O p k w) told.4 at in
-        let same = same_body p (Answered n told.0 told.1 d.done told.2 told.3) here refl told.0 d.body (Waiting told.1) (Waiting d.keeps) refl d.was in
-        let is : s ≡ Answered n d.body d.keeps d.done told.2 told.3 = told.4 ∙ (ap (λ (k : Body O). Answered n k told.1 d.done told.2 told.3) same.0 ∙ ap (λ (k : Option Kept). Answered n d.body k d.done told.2 told.3) (waiting_same told.1 d.keeps same.1)) in
+        let same = same_body p (Answered n told.0 told.1 d.done told.2 told.3) here refl told.0 d.body (Waiting told.2 told.1) (Waiting d.pause d.keeps) refl d.was in
+        let kept = waiting_same told.2 d.pause told.1 d.keeps same.1 in
+        let is : s ≡ Answered n d.body d.keeps d.done d.pause told.3 = told.4 ∙ (λ i. Answered n (same.0 i) (kept.1 i) d.done (kept.0 i) told.3) in
         let here2 = subst (λ (k : Spot O). At O p k w) is at in (
           got_spot O n d.body d.keeps d.done,
-          record { is = record { body = d.body; keeps = d.keeps; done = d.done; paused = told.2; held = told.3; child_is = d.child_is; ended_is = d.ended_is; kept_is = d.kept_is; was = is; now = refl }; kernel = d.still.kernel },
-          got_at p d.body d.keeps d.done told.2 told.3 d.from d.stamp told.5 here2 d.base.took d.base.posts (own_slot p _ _ _ _ _ old t new d.base),
+          record { is = record { body = d.body; keeps = d.keeps; done = d.done; paused = d.pause; held = told.3; child_is = d.child_is; ended_is = d.ended_is; kept_is = d.kept_is; was = is; now = refl }; kernel = d.still.kernel },
+          got_at p d.body d.keeps d.done d.pause told.3 d.from d.stamp told.5 here2 d.base.took d.base.posts (own_slot p _ _ _ _ _ old t new d.base),
         )
 
     -- a context that changes and its letter stays
@@ -264,7 +268,7 @@ module _ (O : Ops) where
     rebody p s r c at l e slots f g h off = settle_stay O w t v goes p s r at l e (rehost p s r (Some c) at slots f g h) off
 
     mark_at : (p : ℕ) (b : Body O) (st : State) (s : Spot O) → Awake O st → At O p s w → Letters O p None None w v → new.slots p ≡ hosts O (Some (context O (record b { poked = true }) st)) (old.slots p) → (old.slots p).context ≡ Some (context O b st) → AwakeAt O n s × At O p (mark O s) v
-    mark_at p b (Waiting k) s awake at l slots was = absurd awake
+    mark_at p b (Waiting pause k) s awake at l slots was = absurd awake
     mark_at p b Running s awake at l slots was =
         let is : s ≡ Runs n b = context_tells O p s w at n b Running was in
         let r = Runs n (record b { poked = true }) in
@@ -327,8 +331,8 @@ module _ (O : Ops) where
     not_awake : (s : Spot O) (c : Context O) → Awake O c.state → kept_at O s ≡ Some c → Asleep O (cond (n == site O s) (kept_at O s) None) → site O s ≢ n
     not_awake s c awake e h x =
         let f : cond (n == site O s) (kept_at O s) None ≡ Some c = ap (λ (k : Bool). cond k (kept_at O s) None) (same_numbers n (site O s) (sym x)) ∙ e in
-        let g : (k : Option Kept) × (c.state ≡ Waiting k) = subst (Asleep O) f h in
-        subst (Awake O) g.1 awake
+        let g : (pause : Bool) × (k : Option Kept) × (c.state ≡ Waiting pause k) = subst (Asleep O) f h in
+        subst (Awake O) g.2 awake
 
     asleep_at : (s : Spot O) → Asleep O (cond (n == site O s) (kept_at O s) None) → AsleepAt O n s
     asleep_at Nowhere h = tt
@@ -362,54 +366,62 @@ module _ (O : Ops) where
       stay_own p s _ _ at (loose_in p _ _ d.base.took d.base.posts refl (refl, tt)) d.base,
     )
 
-    pub begin_own : (p to line : ℕ) (s : Spot O) → At O p s w → Begins O n p to line old t new → Turned (λ r. Quiet O (Begun O n to line s r) old new) p v
-    begin_own p to line s at d =
+    begin_letters : (p to : ℕ) (reason : Reason) (d : Begins O n p to reason old t new) → Letters O p None (Some (way O n to (Ask p (O.pages d.body.user)))) w v
+    begin_letters p to (ForLine line) d = loose_out p _ _ [] d.base.took d.base.posts refl (itself p) tt
+    begin_letters p to (Chosen false other) d = sends_second p _ _ [] d.base.took d.base.posts refl (itself p) tt
+    begin_letters p to (Chosen true other) d = loose_out p _ _ [] d.base.took d.base.posts refl (itself p) tt
+
+    pub begin_own : (p to : ℕ) (reason : Reason) (s : Spot O) → At O p s w → Begins O n p to reason old t new → Turned (λ r. Quiet O (Begun O n to (line_for reason) s r) old new) p v
+    begin_own p to reason s at d =
         let is : s ≡ Runs n d.body = context_tells O p s w at n d.body Running d.was in
-        let r = Asks n d.body to (Some line) (O.pages d.body.user) in
+        let r = Asks n d.body to (line_for reason) (O.pages d.body.user) in
         let here = subst (λ (k : Spot O). At O p k w) is at in (
           r,
           record { is = record { body = d.body; away = d.away; was = is; now = refl }; kernel = d.still.kernel },
-          settle O w t v goes p (Runs n d.body) r here None _ (loose_out p _ _ [] d.base.took d.base.posts refl (itself p) tt) refl refl
-              (rehost p (Runs n d.body) r (Some (context O d.body (Asking to (Some line)))) here (own_slot p _ _ _ _ _ old t new d.base) (cond_here n _ _) refl refl)
+          settle O w t v goes p (Runs n d.body) r here None _ (begin_letters p to reason d) refl refl
+              (rehost p (Runs n d.body) r (Some (context O d.body (Asking to (line_for reason)))) here (own_slot p _ _ _ _ _ old t new d.base) (cond_here n _ _) refl refl)
               (λ m ne. same_slot (slot_by O (Runs n d.body) m) (slot_by O r m) (off_both m n _ _ _ ne) refl refl),
         )
 
-    keep_at : (p : ℕ) (x : Kept) (b : Body O) (s : Spot O) → At O p s w → Letters O p None None w v → new.slots p ≡ hosts O (Some (context O b (Waiting (Some x)))) (old.slots p) → (old.slots p).context ≡ Some (context O b (Waiting None)) → FreeAt O n s × At O p (keep_in O x s) v
-    keep_at p x b s at l slots was = go (context_tells O p s w at n b (Waiting None) was)
+    keep_at : (p : ℕ) (x : Kept) (b : Body O) (pause : Bool) (s : Spot O) → At O p s w → Letters O p None None w v → new.slots p ≡ hosts O (Some (context O b (Waiting pause (Some x)))) (old.slots p) → (old.slots p).context ≡ Some (context O b (Waiting pause None)) → FreeAt O n s × At O p (keep_in O x s) v
+    keep_at p x b pause s at l slots was = go (context_tells O p s w at n b (Waiting pause None) was)
       where
-        go : ((r : O.Request) × (s ≡ Calls n b None r)) ⊎ (((r : O.Request) × (s ≡ Holds n b None r)) ⊎ (((r : Bool) × (s ≡ Pauses n b None r)) ⊎ ((d : Done O) × (y : Bool) × (z : Bool) × (s ≡ Answered n b None d y z)))) → FreeAt O n s × At O p (keep_in O x s) v
-        go (inl (q, is)) =
+        held : (c : Bool) → pause ≡ c → new.slots p ≡ hosts O (Some (context O b (Waiting c (Some x)))) (old.slots p)
+        held c e = slots ∙ ap (λ (k : Bool). hosts O (Some (context O b (Waiting k (Some x)))) (old.slots p)) e
+
+        go : ((r : O.Request) × (s ≡ Calls n b None r) × (pause ≡ false)) ⊎ (((r : O.Request) × (s ≡ Holds n b None r) × (pause ≡ false)) ⊎ (((r : Bool) × (s ≡ Pauses n b None r) × (pause ≡ true)) ⊎ ((d : Done O) × (z : Bool) × (s ≡ Answered n b None d pause z)))) → FreeAt O n s × At O p (keep_in O x s) v
+        go (inl (q, is, e)) =
             let r = Calls n b (Some x) q in
             subst (λ (k : Spot O). FreeAt O n k × At O p (keep_in O x k) v) (sym is) (
               (refl, refl),
-              rebody p (Calls n b None q) r (context O b (Waiting (Some x))) (subst (λ (k : Spot O). At O p k w) is at) l refl slots (cond_here n _ _) refl refl
+              rebody p (Calls n b None q) r (context O b (Waiting false (Some x))) (subst (λ (k : Spot O). At O p k w) is at) l refl (held false e) (cond_here n _ _) refl refl
                   (λ m ne. same_slot (slot_by O (Calls n b None q) m) (slot_by O r m) (off_both m n _ _ _ ne) refl refl),
             )
-        go (inr (inl (q, is))) =
+        go (inr (inl (q, is, e))) =
             let r = Holds n b (Some x) q in
             subst (λ (k : Spot O). FreeAt O n k × At O p (keep_in O x k) v) (sym is) (
               (refl, refl),
-              rebody p (Holds n b None q) r (context O b (Waiting (Some x))) (subst (λ (k : Spot O). At O p k w) is at) l refl slots (cond_here n _ _) refl refl
+              rebody p (Holds n b None q) r (context O b (Waiting false (Some x))) (subst (λ (k : Spot O). At O p k w) is at) l refl (held false e) (cond_here n _ _) refl refl
                   (λ m ne. same_slot (slot_by O (Holds n b None q) m) (slot_by O r m) (off_both m n _ _ _ ne) refl refl),
             )
-        go (inr (inr (inl (q, is)))) =
+        go (inr (inr (inl (q, is, e)))) =
             let r = Pauses n b (Some x) q in
             subst (λ (k : Spot O). FreeAt O n k × At O p (keep_in O x k) v) (sym is) (
               (refl, refl),
-              rebody p (Pauses n b None q) r (context O b (Waiting (Some x))) (subst (λ (k : Spot O). At O p k w) is at) l refl slots (cond_here n _ _) refl refl
+              rebody p (Pauses n b None q) r (context O b (Waiting true (Some x))) (subst (λ (k : Spot O). At O p k w) is at) l refl (held true e) (cond_here n _ _) refl refl
                   (λ m ne. same_slot (slot_by O (Pauses n b None q) m) (slot_by O r m) (off_both m n _ _ _ ne) refl refl),
             )
-        go (inr (inr (inr (d, y, z, is)))) =
-            let r = Answered n b (Some x) d y z in
+        go (inr (inr (inr (d, z, is)))) =
+            let r = Answered n b (Some x) d pause z in
             subst (λ (k : Spot O). FreeAt O n k × At O p (keep_in O x k) v) (sym is) (
               (refl, refl),
-              rebody p (Answered n b None d y z) r (context O b (Waiting (Some x))) (subst (λ (k : Spot O). At O p k w) is at) l refl slots (cond_here n _ _) refl refl
-                  (λ m ne. same_slot (slot_by O (Answered n b None d y z) m) (slot_by O r m) (off_both m n _ _ _ ne) refl refl),
+              rebody p (Answered n b None d pause z) r (context O b (Waiting pause (Some x))) (subst (λ (k : Spot O). At O p k w) is at) l refl slots (cond_here n _ _) refl refl
+                  (λ m ne. same_slot (slot_by O (Answered n b None d pause z) m) (slot_by O r m) (off_both m n _ _ _ ne) refl refl),
             )
 
     pub keep_own : (p to line : ℕ) (s : Spot O) → At O p s w → Keeps O n p to line old t new → Turned (λ r. Quiet O (KeptMove O n to line s r) old new) p v
     keep_own p to line s at d =
-        let x = keep_at p (record { to = to; line = line }) d.body s at (loose_in p _ [] d.base.took d.base.posts refl tt) (own_slot p _ _ _ _ _ old t new d.base) d.was in
+        let x = keep_at p (record { to = to; line = line }) d.body d.pause s at (loose_in p _ [] d.base.took d.base.posts refl tt) (own_slot p _ _ _ _ _ old t new d.base) d.was in
         (keep_in O (record { to = to; line = line }) s, record { is = record { away = d.away; free = x.0; now = refl }; kernel = d.still.kernel }, x.1)
 
     pub grant_own : (p from need : ℕ) (s : Spot O) → At O p s w → Grants O n p from need old t new → Turned (λ r. Quiet O (AllowedMove O n from need old s r) old new) p v

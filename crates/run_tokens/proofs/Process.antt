@@ -1,7 +1,7 @@
 -- Each process is where its spot says: at each node is the slot, and on each link the letter, that its spot tells.
 use Rattle.std.proofs.Common.{◌≡◌, ◌≢◌, ℕ, ◌==◌, ◌⊎◌, inl, inr, Bool, true, false, cond, Option, Some, None, List, [], ◌∷◌, ◌++◌, refl, sym, ap, ◌∙◌, subst}
 use Rattle.run_tokens.specs.Ops.{Ops}
-use Rattle.run_tokens.specs.Notes.{Done, Note, Call, Pause, Reply, Poke, Go, NotHere, Ask, Allow, Deny, Move, Landed, NoMove, Post, Turn, Body, Kept, State, Running, Waiting, Asking, Context, context, Called, Slot, Local, Way, way}
+use Rattle.run_tokens.specs.Notes.{Done, Note, Call, Pause, Reply, Poke, Half, Go, NotHere, Ask, Allow, Deny, Move, Landed, NoMove, Post, Turn, Body, Kept, State, Running, Waiting, Asking, Context, context, Called, Slot, Local, Way, way}
 use Rattle.run_tokens.specs.Spots.{Spot, Nowhere, Runs, Calls, Holds, Pauses, Answered, Asks, Granted, Denied, Travels, InReply, Ended, site, kept_at, call_at, slot_by, way_by}
 use Rattle.run_tokens.specs.Cluster.{World, for_link, at_front, Goes}
 use Rattle.run_tokens.proofs.Talk.{same_numbers, other_numbers, numbers_same, numbers_other, on_link, talk, talk-append, taken_whole}
@@ -63,6 +63,7 @@ module _ (O : Ops) where
   WayTells (Pause q r) a b s = (body : Body O) × (kept : Option Kept) × (s ≡ Pauses a body kept r) × (b ≡ 0)
   WayTells (Reply q d) a b s = (body : Body O) × (kept : Option Kept) × (x : Bool) × (y : Bool) × (s ≡ Answered b body kept d x y) × (a ≡ 0)
   WayTells (Poke q) a b s = ⊥
+  WayTells (Half places) a b s = ⊥
   WayTells (Go q to hops line) a b s = ⊥
   WayTells (NotHere q to hops line) a b s = ⊥
   WayTells (Ask q need) a b s = (body : Body O) × (line : Option ℕ) × (s ≡ Asks a body b line need)
@@ -95,7 +96,7 @@ module _ (O : Ops) where
   -- what a context tells of the spot
   abbrev pub StateTells : State → Body O → ℕ → Spot O → Type 0
   StateTells Running b n s = s ≡ Runs n b
-  StateTells (Waiting k) b n s = ((r : O.Request) × (s ≡ Calls n b k r)) ⊎ (((r : O.Request) × (s ≡ Holds n b k r)) ⊎ (((r : Bool) × (s ≡ Pauses n b k r)) ⊎ ((d : Done O) × (x : Bool) × (y : Bool) × (s ≡ Answered n b k d x y))))
+  StateTells (Waiting pause k) b n s = ((r : O.Request) × (s ≡ Calls n b k r) × (pause ≡ false)) ⊎ (((r : O.Request) × (s ≡ Holds n b k r) × (pause ≡ false)) ⊎ (((r : Bool) × (s ≡ Pauses n b k r) × (pause ≡ true)) ⊎ ((d : Done O) × (y : Bool) × (s ≡ Answered n b k d pause y))))
   StateTells (Asking to line) b n s = ((need : ℕ) × (s ≡ Asks n b to line need)) ⊎ (((need : ℕ) × (s ≡ Granted n b to line need)) ⊎ ((need : ℕ) × (free : ℕ) × (s ≡ Denied n b to line need free)))
 
   some_context : (c d : Context O) → Some c ≡ Some d → c ≡ d
@@ -107,10 +108,10 @@ module _ (O : Ops) where
   state_tells : (s : Spot O) (c : Context O) → kept_at O s ≡ Some c → StateTells c.state c.body (site O s) s
   state_tells Nowhere c h = absurd cc
   state_tells (Runs n b) c h = held_on (Runs n b) (context O b Running) c h refl
-  state_tells (Calls n b k r) c h = held_on (Calls n b k r) (context O b (Waiting k)) c h (inl (r, refl))
-  state_tells (Holds n b k r) c h = held_on (Holds n b k r) (context O b (Waiting k)) c h (inr (inl (r, refl)))
-  state_tells (Pauses n b k r) c h = held_on (Pauses n b k r) (context O b (Waiting k)) c h (inr (inr (inl (r, refl))))
-  state_tells (Answered n b k d x y) c h = held_on (Answered n b k d x y) (context O b (Waiting k)) c h (inr (inr (inr (d, x, y, refl))))
+  state_tells (Calls n b k r) c h = held_on (Calls n b k r) (context O b (Waiting false k)) c h (inl (r, refl, refl))
+  state_tells (Holds n b k r) c h = held_on (Holds n b k r) (context O b (Waiting false k)) c h (inr (inl (r, refl, refl)))
+  state_tells (Pauses n b k r) c h = held_on (Pauses n b k r) (context O b (Waiting true k)) c h (inr (inr (inl (r, refl, refl))))
+  state_tells (Answered n b k d x y) c h = held_on (Answered n b k d x y) (context O b (Waiting x k)) c h (inr (inr (inr (d, y, refl))))
   state_tells (Asks n b to l need) c h = held_on (Asks n b to l need) (context O b (Asking to l)) c h (inl (need, refl))
   state_tells (Granted n b to l need) c h = held_on (Granted n b to l need) (context O b (Asking to l)) c h (inr (inl (need, refl)))
   state_tells (Denied n b to l need free) c h = held_on (Denied n b to l need free) (context O b (Asking to l)) c h (inr (inr (need, free, refl)))

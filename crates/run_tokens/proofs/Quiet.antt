@@ -1,11 +1,11 @@
 -- What an event does to spots alone: a process that was nowhere stays so, moves go to other nodes, and children belong to their parents' answers.
 use Rattle.std.proofs.Common.{◌≡◌, ◌≢◌, ℕ, ◌+◌, ◌⊎◌, inl, inr, Bool, true, false, cond, Option, Some, None, List, refl, sym, ap, ◌∙◌, subst}
 use Rattle.run_tokens.specs.Ops.{Ops, Sound, counted, typed}
-use Rattle.run_tokens.specs.Deeds.{Manner, Did, Broke, Fell, Paused, Deed, Run, Kill, Bid, Unsent, Other, Steps, Sent, Heed, Held, Served, Got, Poked, Begin, Keep, Missed, Again, Allows, Denies, Depart, Stay, Land, Told, Refused, Closed, Strange, pid_of, Input, Text, Finish, Nothing}
+use Rattle.run_tokens.specs.Deeds.{Manner, Did, Broke, Fell, Paused, Deed, Run, Kill, Bid, Unsent, Other, Steps, Sent, Heed, Held, Served, Got, Poked, Begin, Keep, Missed, Again, Allows, Denies, Depart, Stay, Land, Told, Refused, Closed, Gossips, Strange, pid_of, Input, Text, Finish, Nothing}
 use Rattle.run_tokens.specs.Notes.{Done, Body, Kept, Local}
 use Rattle.run_tokens.specs.Spots.{Spot, Nowhere, Runs, Calls, Holds, Pauses, Answered, Asks, Granted, Denied, Travels, InReply, Ended}
-use Rattle.run_tokens.specs.Home.{First, last, last_by, Acts, returned, after}
-use Rattle.run_tokens.specs.Needs.{Needs, ServedSo, ServedCall, got_spot, asked, FreeAt, mark, keep_in, Aims, KeptAims}
+use Rattle.run_tokens.specs.Home.{First, last, last_by, Acts, give, enter, returned, after}
+use Rattle.run_tokens.specs.Needs.{Needs, ServedSo, ServedCall, got_spot, asked, FreeAt, mark, keep_in, Aims, KeptAims, Named}
 use Rattle.std.specs.Prelude.{ℤ}
 use Rattle.call_table.specs.declared.process.End.{End}
 
@@ -73,7 +73,7 @@ module _ (O : Ops) (S : Sound O) where
     born_count (Served p manner number value child signal ends more poked) k = counted child k
     born_count (Got p child ended kept) k = k
     born_count (Poked p used) k = k
-    born_count (Begin p to line) k = k
+    born_count (Begin p to reason) k = k
     born_count (Keep p to line) k = k
     born_count (Missed p to line) k = k
     born_count (Again p to place line) k = k
@@ -85,6 +85,7 @@ module _ (O : Ops) (S : Sound O) where
     born_count (Told p at source hops line poked) k = k
     born_count (Refused p to why line) k = k
     born_count (Closed line) k = k
+    born_count (Gossips heard other) k = k
     born_count (Strange p) k = k
 
     pub counts : (what : Deed) → Needs O what n old new s r → O.count new.kernel ≡ born_count what (O.count old.kernel)
@@ -100,7 +101,7 @@ module _ (O : Ops) (S : Sound O) where
     counts (Served p manner number value child signal ends more poked) d = count_so manner p number value child signal ends more poked d
     counts (Got p child ended kept) d = ap O.count d.kernel
     counts (Poked p used) d = ap O.count d.kernel
-    counts (Begin p to line) d = ap O.count d.kernel
+    counts (Begin p to reason) d = ap O.count d.kernel
     counts (Keep p to line) d = ap O.count d.kernel
     counts (Missed p to line) d = ap O.count d.kernel
     counts (Again p to place line) d = ap O.count d.kernel
@@ -112,6 +113,7 @@ module _ (O : Ops) (S : Sound O) where
     counts (Told p at source hops line poked) d = ap O.count d.kernel
     counts (Refused p to why line) d = ap O.count d.kernel
     counts (Closed line) d = ap O.count d.kernel
+    counts (Gossips heard other) d = ap O.count d.kernel
     counts (Strange p) d = absurd d
 
     -- nothing but its launch takes a process out of nowhere
@@ -150,7 +152,7 @@ module _ (O : Ops) (S : Sound O) where
     nowhere (Got p child ended kept) d e = let z = sym d.is.was ∙ e in absurd cc
     nowhere (Poked p true) d e = inl (d.is.now ∙ ap (mark O) e)
     nowhere (Poked p false) d e = inl (d.is.now ∙ e)
-    nowhere (Begin p to line) d e = let z = sym d.is.was ∙ e in absurd cc
+    nowhere (Begin p to reason) d e = let z = sym d.is.was ∙ e in absurd cc
     nowhere (Keep p to line) d e = inl (d.is.now ∙ ap (keep_in O (record { to = to; line = line })) e)
     nowhere (Missed p to line) d e = inl (d.is.now ∙ e)
     nowhere (Again p to place line) d e = inl (d.is.now ∙ e)
@@ -162,6 +164,7 @@ module _ (O : Ops) (S : Sound O) where
     nowhere (Told p at source hops line poked) d e = inl (d.is.now ∙ e)
     nowhere (Refused p to why line) d e = inl (d.is.now ∙ e)
     nowhere (Closed line) d e = inl (d.is.now ∙ e)
+    nowhere (Gossips heard other) d e = inl (d.is.now ∙ e)
     nowhere (Strange p) d e = absurd d
 
   -- a move goes to another node
@@ -233,7 +236,7 @@ module _ (O : Ops) (S : Sound O) where
     aims (Got p child ended kept) d a = subst (Aims O) (sym d.is.now) (aims_got n d.is.body d.is.keeps d.is.done d.is.paused d.is.held (subst (Aims O) d.is.was a))
     aims (Poked p true) d a = subst (Aims O) (sym d.is.now) (aims_mark s a)
     aims (Poked p false) d a = subst (Aims O) (sym d.is.now) a
-    aims (Begin p to line) d a = subst (Aims O) (sym d.is.now) d.is.away
+    aims (Begin p to reason) d a = subst (Aims O) (sym d.is.now) d.is.away
     aims (Keep p to line) d a = subst (Aims O) (sym d.is.now) (aims_free (record { to = to; line = line }) n s d.is.away d.is.free)
     aims (Missed p to line) d a = subst (Aims O) (sym d.is.now) a
     aims (Again p to place line) d a = subst (Aims O) (sym d.is.now) a
@@ -245,4 +248,97 @@ module _ (O : Ops) (S : Sound O) where
     aims (Told p at source hops line poked) d a = subst (Aims O) (sym d.is.now) a
     aims (Refused p to why line) d a = subst (Aims O) (sym d.is.now) a
     aims (Closed line) d a = subst (Aims O) (sym d.is.now) a
+    aims (Gossips heard other) d a = subst (Aims O) (sym d.is.now) a
     aims (Strange p) d a = absurd d
+
+  -- a user state keeps its pid
+  named_mark : (p : ℕ) (s : Spot O) → Named O p s → Named O p (mark O s)
+  named_mark p Nowhere a = a
+  named_mark p (Runs m b) a = a
+  named_mark p (Calls m b k r) a = a
+  named_mark p (Holds m b k r) a = a
+  named_mark p (Pauses m b k r) a = a
+  named_mark p (Answered m b k d x y) a = a
+  named_mark p (Asks m b to l need) a = a
+  named_mark p (Granted m b to l need) a = a
+  named_mark p (Denied m b to l need free) a = a
+  named_mark p (Travels x c b l need) a = a
+  named_mark p (InReply q u) a = a
+  named_mark p (Ended u) a = a
+
+  named_keep : (x : Kept) (p : ℕ) (s : Spot O) → Named O p s → Named O p (keep_in O x s)
+  named_keep x p Nowhere a = a
+  named_keep x p (Runs m b) a = a
+  named_keep x p (Calls m b k r) a = a
+  named_keep x p (Holds m b k r) a = a
+  named_keep x p (Pauses m b k r) a = a
+  named_keep x p (Answered m b k d z y) a = a
+  named_keep x p (Asks m b to l need) a = a
+  named_keep x p (Granted m b to l need) a = a
+  named_keep x p (Denied m b to l need free) a = a
+  named_keep x p (Travels y c b l need) a = a
+  named_keep x p (InReply q u) a = a
+  named_keep x p (Ended u) a = a
+
+  named_give : (u : O.User) (o : Option O.Answer) → O.pid_of (give O u o) ≡ O.pid_of u
+  named_give u None = refl
+  named_give u (Some a) = S.pid_given u a
+
+  named_enter : (u : O.User) (o : Option O.Taken) → O.pid_of (enter O u o) ≡ O.pid_of u
+  named_enter u None = refl
+  named_enter u (Some t) = S.pid_entered u t
+
+  named_got : (p n : ℕ) (b : Body O) (k : Option Kept) (d : Done O) → O.pid_of b.user ≡ p → Named O p (got_spot O n b k d)
+  named_got p n b None d a = go d.ended
+    where
+      go : (e : Bool) → Named O p (cond e (Ended (after O b.user d)) (Runs n (returned O b d)))
+      go true = tt
+      go false = named_enter (give O b.user d.answer) d.taken ∙ (named_give b.user d.answer ∙ a)
+  named_got p n b (Some k) d a = go d.ended
+    where
+      go : (e : Bool) → Named O p (cond e (Ended (after O b.user d)) (Asks n (returned O b d) k.to (Some k.line) (O.pages (after O b.user d))))
+      go true = tt
+      go false = named_enter (give O b.user d.answer) d.taken ∙ (named_give b.user d.answer ∙ a)
+
+  module _ (n : ℕ) (old new : Local O) (s r : Spot O) where
+    named_call : (m : Manner) (p : ℕ) (number : Option ℕ) (value : Option ℤ) (child signal : Option ℕ) (ends : Option End) (more : Bool) (poked : List ℕ) → ServedCall O n p m number value child signal ends more poked old new s r → Named O p s → Named O p r
+    named_call m p number value child signal ends more poked d a = subst (Named O p) (sym d.now) (go d.held d.from d.body d.kept d.request (subst (Named O p) d.was a))
+      where
+        go : (h : Bool) (m : ℕ) (b : Body O) (k : Option Kept) (q : O.Request) → Named O p (asked O h m b k q) → O.pid_of b.user ≡ p
+        go true m b k q x = x
+        go false m b k q x = x
+
+    named_so : (m : Manner) (p : ℕ) (number : Option ℕ) (value : Option ℤ) (child signal : Option ℕ) (ends : Option End) (more : Bool) (poked : List ℕ) → ServedSo O m n p number value child signal ends more poked old new s r → Named O p s → Named O p r
+    named_so Did p number value child signal ends more poked d a = named_call Did p number value child signal ends more poked d a
+    named_so Broke p number value child signal ends more poked d a = named_call Broke p number value child signal ends more poked d a
+    named_so Fell p number value child signal ends more poked d a = named_call Fell p number value child signal ends more poked d a
+    named_so Paused p number value child signal ends more poked d a = subst (Named O p) (sym d.now) (subst (Named O p) d.was a)
+
+    pub named : (what : Deed) → Needs O what n old new s r → Named O (pid_of what) s → Named O (pid_of what) r
+    named (Run line i p) d a = subst (Named O p) (sym d.now) (S.pid_loaded i p d.image)
+    named (Kill line p g poked) d a = subst (Named O p) (sym d.now) a
+    named (Bid line p to) d a = subst (Named O p) (sym d.is.now) a
+    named (Unsent line p never) d a = subst (Named O p) (sym d.is.now) a
+    named (Other line input) d a = subst (Named O 0) (sym d.now) a
+    named (Steps p x) d a = subst (Named O p) (sym d.is.now) (S.pid_went d.is.body.user d.is.user x d.is.went ∙ subst (Named O p) d.is.was a)
+    named (Sent p x) d a = subst (Named O p) (sym d.is.now) (subst (Named O p) d.is.was a)
+    named (Heed p) d a = subst (Named O p) (sym d.is.now) (subst (Named O p) d.is.was a)
+    named (Held p x) d a = subst (Named O p) (sym d.is.now) (subst (Named O p) d.is.was a)
+    named (Served p manner number value child signal ends more poked) d a = named_so manner p number value child signal ends more poked d a
+    named (Got p child ended kept) d a = subst (Named O p) (sym d.is.now) (named_got p n d.is.body d.is.keeps d.is.done (subst (Named O p) d.is.was a))
+    named (Poked p true) d a = subst (Named O p) (sym d.is.now) (named_mark p s a)
+    named (Poked p false) d a = subst (Named O p) (sym d.is.now) a
+    named (Begin p to reason) d a = subst (Named O p) (sym d.is.now) (subst (Named O p) d.is.was a)
+    named (Keep p to line) d a = subst (Named O p) (sym d.is.now) (named_keep (record { to = to; line = line }) p s a)
+    named (Missed p to line) d a = subst (Named O p) (sym d.is.now) a
+    named (Again p to place line) d a = subst (Named O p) (sym d.is.now) a
+    named (Allows p from need) d a = subst (Named O p) (sym d.is.now) (subst (Named O p) d.is.was a)
+    named (Denies p from need free) d a = subst (Named O p) (sym d.is.now) (subst (Named O p) d.is.was a)
+    named (Depart p to) d a = subst (Named O p) (sym d.is.now) (subst (Named O p) d.is.was a)
+    named (Stay p to need free) d a = subst (Named O p) (sym d.is.now) (subst (Named O p) d.is.was a)
+    named (Land p source) d a = subst (Named O p) (sym d.is.now) (subst (Named O p) d.is.was a)
+    named (Told p at source hops line poked) d a = subst (Named O p) (sym d.is.now) a
+    named (Refused p to why line) d a = subst (Named O p) (sym d.is.now) a
+    named (Closed line) d a = subst (Named O 0) (sym d.is.now) a
+    named (Gossips heard other) d a = subst (Named O 0) (sym d.is.now) a
+    named (Strange p) d a = absurd d

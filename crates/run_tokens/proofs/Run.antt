@@ -1,13 +1,15 @@
 -- Over every list of turns that the cluster can make, each process is at its spot, and each event finds the spot that it needs.
 use Rattle.std.proofs.Common.{◌≡◌, ◌≤◌, ◌≢◌, ℕ, ◌<◌, ◌==◌, ◌⊎◌, inl, inr, Bool, true, false, cond, Option, Some, None, List, [], ◌∷◌, refl, sym, ap, ◌∙◌, subst, arith}
 use Rattle.run_tokens.specs.Ops.{Ops, IsMove, is_child}
-use Rattle.run_tokens.specs.Deeds.{Manner, Did, Broke, Fell, Paused, KeptTold, Deed, Run, Kill, Bid, Unsent, Other, Steps, Sent, Heed, Held, Served, Got, Poked, Begin, Keep, Missed, Again, Allows, Denies, Depart, Stay, Land, Told, Refused, Closed, Strange, pid_of, child_of}
-use Rattle.run_tokens.specs.Notes.{Done, Note, Call, Pause, Reply, Poke, Go, NotHere, Ask, Allow, Deny, Move, Landed, NoMove, Post, Turn, letter, Body, fresh, Kept, Running, Waiting, Asking, context, Slot, Local, way}
-use Rattle.run_tokens.specs.Spots.{Spot, Nowhere, Runs, Asks, Travels, InReply, slot_by, way_by, mine}
-use Rattle.run_tokens.specs.Does.{Base, hosts, same, Does, ServedBy, PokedBy, Skips, Misfit, FarNode, pid_of_note, got_posts}
+use Rattle.run_tokens.specs.Deeds.{Manner, Did, Broke, Fell, Paused, KeptTold, ForLine, Chosen, Deed, Run, Kill, Bid, Unsent, Other, Steps, Sent, Heed, Held, Served, Got, Poked, Begin, Keep, Missed, Again, Allows, Denies, Depart, Stay, Land, Told, Refused, Closed, Gossips, Strange, pid_of, child_of}
+use Rattle.run_tokens.specs.Notes.{Done, Note, Call, Pause, Reply, Poke, Half, Go, NotHere, Ask, Allow, Deny, Move, Landed, NoMove, Post, Turn, letter, Body, fresh, Kept, State, Running, Waiting, Context, context, Slot, Local, way}
+use Rattle.run_tokens.specs.Spots.{Spot, Nowhere, Runs, Calls, Pauses, Answered, Asks, Granted, Denied, Travels, InReply, slot_by, way_by, mine}
+use Rattle.run_tokens.specs.Does.{Base, hosts, same, Does, ServedBy, PokedBy, Skips, Misfit, WrongChild, Reserved, FarNode, pid_of_note, got_posts}
 use Rattle.run_tokens.specs.Cluster.{World, Goes}
-use Rattle.run_tokens.specs.Home.{after}
-use Rattle.run_tokens.specs.Needs.{Needs, ServedSo, PokedSo, Quiet, Aims}
+use Rattle.run_tokens.specs.Gossip.{NearPlaces}
+use Rattle.run_tokens.proofs.Places.{not_far}
+use Rattle.run_tokens.specs.Home.{after, fits_done, Given, NeverGiven}
+use Rattle.run_tokens.specs.Needs.{Needs, ServedSo, PokedSo, Quiet, Aims, Right, Named, alive, brings}
 use Rattle.run_tokens.proofs.Talk.{same_numbers, Of, AllOf, TakenOf, Loose, all_other, taken_other, talk_loose, pokes_of, pokes_loose, closed_of}
 use Rattle.run_tokens.proofs.Process.{cond_here, cond_off, cond_same, At, Letters, letters_of, took_way, way_tells, settle, rests}
 use Rattle.run_tokens.proofs.Own.{Turned, same_slot, loose_in, takes_in, silent, launch_own, step_own, send_own, heed_own, hold_own, serve_own, retry_own, pause_own, get_own, mark_own, ignore_own, miss_own, begin_own, keep_own, grant_own, refuse_own, depart_own, stay_here_own, land_own, stay_own}
@@ -15,24 +17,25 @@ use Rattle.std.specs.Prelude.{ℤ}
 use Rattle.call_table.specs.declared.process.End.{End}
 
 module _ (O : Ops) where
-  -- letters for home go to home, those of a line are of its move, and a landing is told with its number
-  abbrev pub Bound : Note O → ℕ → Type 0
-  Bound (Call p r) b = Unit {0}
-  Bound (Pause p r) b = Unit {0}
-  Bound (Reply p d) b = Unit {0}
-  Bound (Poke p) b = Unit {0}
-  Bound (Go p to hops line) b = IsMove O line p to × (to < O.nodes)
-  Bound (NotHere p to hops line) b = (b ≡ 0) × IsMove O line p to × (to < O.nodes)
-  Bound (Ask p need) b = Unit {0}
-  Bound (Allow p) b = Unit {0}
-  Bound (Deny p need free) b = Unit {0}
-  Bound (Move p u hops line) b = Unit {0}
-  Bound (Landed p source hops line) b = (b ≡ 0) × (1 ≤ hops) × (source < O.nodes)
-  Bound (NoMove line) b = b ≡ 0
+  -- letters for home go to home, those of a line are of its move, a landing is told with its number, and their pids were given, of k; the places of a half name nodes of the cluster
+  abbrev pub Bound : ℕ → Note O → ℕ → Type 0
+  Bound k (Call p r) b = Unit {0}
+  Bound k (Pause p r) b = Unit {0}
+  Bound k (Reply p d) b = Unit {0}
+  Bound k (Poke p) b = Unit {0}
+  Bound k (Half places) b = NearPlaces O.nodes places
+  Bound k (Go p to hops line) b = IsMove O line p to × (to < O.nodes) × Given O k p
+  Bound k (NotHere p to hops line) b = (b ≡ 0) × IsMove O line p to × (to < O.nodes) × Given O k p
+  Bound k (Ask p need) b = Unit {0}
+  Bound k (Allow p) b = Unit {0}
+  Bound k (Deny p need free) b = Unit {0}
+  Bound k (Move p u hops line) b = Unit {0}
+  Bound k (Landed p source hops line) b = (b ≡ 0) × (1 ≤ hops) × (source < O.nodes) × Given O k p
+  Bound k (NoMove line) b = b ≡ 0
 
-  abbrev pub BoundOf : Option (Post O) → Type 0
-  BoundOf None = Unit {0}
-  BoundOf (Some l) = Bound l.note l.to × (l.from < O.nodes)
+  abbrev pub BoundOf : ℕ → Option (Post O) → Type 0
+  BoundOf k None = Unit {0}
+  BoundOf k (Some l) = Bound k l.note l.to × (l.from < O.nodes)
 
   module _ (w : World O) (t : Turn O) (v : World O) (goes : Goes O w t v) where
     abbrev n : ℕ
@@ -47,85 +50,122 @@ module _ (O : Ops) where
     itself : (p : ℕ) → (p == p) ≡ true
     itself p = same_numbers p p refl
 
-    -- the slot that a spot tells fits each letter that is under way
-    fits : (p : ℕ) (s : Spot O) → Aims O s → At O p s w → (m : Note O) (from : ℕ) → pid_of_note O m ≡ p → mine O p m ≡ true → way_by O p s ≡ Some (way O from n m) → Misfit O n from old m → ⊥
-    fits p s aims at (Call q r) from e own h mis =
-        let told = way_tells O p s (way O from n (Call q r)) h in
-        let none : (old.slots p).call ≡ None = ap (λ (k : Slot O). k.call) (at.slots n) ∙ (ap (λ (k : Spot O). (slot_by O k n).call) told.2 ∙ cond_same (n == 0) None) in
-        go told.3 (subst (λ (k : ℕ). (old.slots k).call ≡ None) (sym e) none) mis
-      where
-        go : n ≡ 0 → (old.slots q).call ≡ None → ((n ≢ 0) ⊎ ((old.slots q).call ≢ None)) → ⊥
-        go a b (inl x) = x a
-        go a b (inr x) = x b
-    fits p s aims at (Pause q r) from e own h mis =
-        let told = way_tells O p s (way O from n (Pause q r)) h in
-        let none : (old.slots p).call ≡ None = ap (λ (k : Slot O). k.call) (at.slots n) ∙ (ap (λ (k : Spot O). (slot_by O k n).call) told.2 ∙ cond_same (n == 0) None) in
-        go told.3 (subst (λ (k : ℕ). (old.slots k).call ≡ None) (sym e) none) mis
-      where
-        go : n ≡ 0 → (old.slots q).call ≡ None → ((n ≢ 0) ⊎ ((old.slots q).call ≢ None)) → ⊥
-        go a b (inl x) = x a
-        go a b (inr x) = x b
-    fits p s aims at (Reply q d) from e own h mis =
-        let told = way_tells O p s (way O from n (Reply q d)) h in
-        let has : (old.slots p).context ≡ Some (context O told.0 (Waiting told.1)) = ap (λ (k : Slot O). k.context) (at.slots n) ∙ (ap (λ (k : Spot O). (slot_by O k n).context) told.4 ∙ cond_here n _ _) in
-        mis told.0 told.1 (subst (λ (k : ℕ). (old.slots k).context ≡ Some (context O told.0 (Waiting told.1))) (sym e) has)
-    fits p s aims at (Poke q) from e own h mis = mis
-    fits p s aims at (Go q to hops line) from e own h mis = mis
-    fits p s aims at (NotHere q to hops line) from e own h mis = way_tells O p s (way O from n (NotHere q to hops line)) h
-    fits p s aims at (Ask q need) from e own h mis =
-        let told = way_tells O p s (way O from n (Ask q need)) h in
-        go told mis
-      where
-        go : (body : Body O) × (line : Option ℕ) × (s ≡ Asks from body n line need) → (((old.slots q).context ≢ None) ⊎ ((old.slots q).reserve ≢ None)) → ⊥
-        go told (inr x) =
-            let none : (old.slots p).reserve ≡ None = ap (λ (k : Slot O). k.reserve) (at.slots n) ∙ (ap (λ (k : Spot O). (slot_by O k n).reserve) told.2 ∙ cond_same (n == 0) None) in
-            x (subst (λ (k : ℕ). (old.slots k).reserve ≡ None) (sym e) none)
-        go told (inl x) =
-            let apart : n ≢ from = subst (Aims O) told.2 aims in
-            let none : (old.slots p).context ≡ None = ap (λ (k : Slot O). k.context) (at.slots n) ∙ (ap (λ (k : Spot O). (slot_by O k n).context) told.2 ∙ cond_off n from _ _ apart) in
-            x (subst (λ (k : ℕ). (old.slots k).context ≡ None) (sym e) none)
-    fits p s aims at (Allow q) from e own h mis =
-        let told = way_tells O p s (way O from n (Allow q)) h in
-        let has : (old.slots p).context ≡ Some (context O told.0 (Asking from told.1)) = ap (λ (k : Slot O). k.context) (at.slots n) ∙ (ap (λ (k : Spot O). (slot_by O k n).context) told.3 ∙ cond_here n _ _) in
-        mis told.0 told.1 (subst (λ (k : ℕ). (old.slots k).context ≡ Some (context O told.0 (Asking from told.1))) (sym e) has)
-    fits p s aims at (Deny q need free) from e own h mis =
-        let told = way_tells O p s (way O from n (Deny q need free)) h in
-        let has : (old.slots p).context ≡ Some (context O told.0 (Asking from told.1)) = ap (λ (k : Slot O). k.context) (at.slots n) ∙ (ap (λ (k : Spot O). (slot_by O k n).context) told.2 ∙ cond_here n _ _) in
-        mis told.0 told.1 (subst (λ (k : ℕ). (old.slots k).context ≡ Some (context O told.0 (Asking from told.1))) (sym e) has)
-    fits p s aims at (Move q u hops line) from e own h mis = go (way_tells O p s (way O from n (Move q u hops line)) h) mis
-      where
-        go : (body : Body O) × (need : ℕ) × (s ≡ Travels from n body line need) × (body.user ≡ u) × (body.hops ≡ hops) → (((old.slots q).context ≢ None) ⊎ ((old.slots q).reserve ≡ None)) → ⊥
-        go told (inl x) =
-            let none : (old.slots p).context ≡ None = ap (λ (k : Slot O). k.context) (at.slots n) ∙ (ap (λ (k : Spot O). (slot_by O k n).context) told.2 ∙ cond_same (n == 0) None) in
-            x (subst (λ (k : ℕ). (old.slots k).context ≡ None) (sym e) none)
-        go told (inr x) =
-            let has : (old.slots p).reserve ≡ Some told.1 = ap (λ (k : Slot O). k.reserve) (at.slots n) ∙ (ap (λ (k : Spot O). (slot_by O k n).reserve) told.2 ∙ cond_here n _ _) in
-            let has2 : None ≡ Some told.1 = sym x ∙ subst (λ (k : ℕ). (old.slots k).reserve ≡ Some told.1) (sym e) has in absurd cc
-    fits p s aims at (Landed q source hops line) from e own h mis = way_tells O p s (way O from n (Landed q source hops line)) h
-    fits p s aims at (NoMove line) from e own h mis = way_tells O p s (way O from n (NoMove line)) h
+    some_context : {c d : Context O} → Some c ≡ Some d → c ≡ d
+    some_context e = cc
 
-    skip_own : (p : ℕ) (s : Spot O) → Aims O s → BoundOf t.taken → At O p s w → Skips O n p old t new → ⊥
-    skip_own p s aims bound at d = go (mine O p d.note) refl d.misfit
+    abbrev pause_of : Bool → State → Bool
+    pause_of x (Waiting pause k) = pause
+    pause_of x _ = x
+
+    -- what is known of a process at its spot
+    pub record Knows (p : ℕ) (s : Spot O) : Type 0 where
+      pub aims : Aims O s
+      pub right : Right O s
+      pub named : Named O p s
+      pub asked : (u : O.User) (r : O.Request) → O.asks u ≡ Some r → O.fits_request r ≡ true
+      pub few : (total : ℕ) → alive O s ≡ true → (old.slots p).reserve ≡ None → Reserved O old total → total < 64
+      pub live : n ≡ 0 → O.live old.kernel p ≡ alive O s
+      pub given : s ≢ Nowhere → n ≡ 0 → NeverGiven O old.kernel p → ⊥
+      pub kid : (c : ℕ) → brings O s ≡ Some c → ((old.slots c).context ≡ None) × (n ≡ 0 → NeverGiven O old.kernel c → ⊥)
+
+    slot_is : (p : ℕ) (s s2 : Spot O) → At O p s w → s ≡ s2 → old.slots p ≡ slot_by O s2 n
+    slot_is p s s2 at e = at.slots n ∙ ap (λ (k : Spot O). slot_by O k n) e
+
+    -- the slot that a spot tells fits each letter that is under way
+    fits : (m : Note O) (from : ℕ) (s : Spot O) → Knows (pid_of_note O m) s → At O (pid_of_note O m) s w → mine O (pid_of_note O m) m ≡ true → way_by O (pid_of_note O m) s ≡ Some (way O from n m) → Misfit O n from old m → ⊥
+    fits (Call q r) from s knows at own h mis = go (way_tells O q s (way O from n (Call q r)) h) mis
       where
-        bad : (m : Note O) → mine O p m ≡ false → pid_of_note O m ≡ p → Bound m n → Misfit O n d.from old m → ⊥
+        go : (body : Body O) × (kept : Option Kept) × (s ≡ Calls from body kept r) × (n ≡ 0) → Misfit O n from old (Call q r) → ⊥
+        go (body, kept, is, home) (inl x) = x home
+        go (body, kept, is, home) (inr (inl x)) = let z : true ≡ false = sym (ap (alive O) is) ∙ (sym (knows.live home) ∙ x) in cc
+        go (body, kept, is, home) (inr (inr (inl x))) = x (ap (λ (k : Slot O). k.call) (slot_is q s _ at is) ∙ cond_same (n == 0) None)
+        go (body, kept, is, home) (inr (inr (inr x))) = let z : true ≡ false = sym (knows.asked body.user r (subst (Right O) is knows.right)) ∙ x in cc
+    fits (Pause q r) from s knows at own h mis = go (way_tells O q s (way O from n (Pause q r)) h) mis
+      where
+        go : (body : Body O) × (kept : Option Kept) × (s ≡ Pauses from body kept r) × (n ≡ 0) → Misfit O n from old (Pause q r) → ⊥
+        go (body, kept, is, home) (inl x) = x home
+        go (body, kept, is, home) (inr (inl x)) = let z : true ≡ false = sym (ap (alive O) is) ∙ (sym (knows.live home) ∙ x) in cc
+        go (body, kept, is, home) (inr (inr x)) = x (ap (λ (k : Slot O). k.call) (slot_is q s _ at is) ∙ cond_same (n == 0) None)
+    fits (Reply q d) from s knows at own h mis = go (way_tells O q s (way O from n (Reply q d)) h) mis
+      where
+        child : (o : Option ℕ) → brings O s ≡ o → WrongChild O n old o → ⊥
+        child None e x = x
+        child (Some c) e (inl x) = x (knows.kid c e).0
+        child (Some c) e (inr x) = (knows.kid c e).1 x.0 x.1
+
+        go : (body : Body O) × (kept : Option Kept) × (x : Bool) × (y : Bool) × (s ≡ Answered n body kept d x y) × (from ≡ 0) → Misfit O n from old (Reply q d) → ⊥
+        go (body, kept, x, y, is, e) (inl none) = none body x kept (ap (λ (k : Slot O). k.context) (slot_is q s _ at is) ∙ cond_here n _ _)
+        go (body, kept, x, y, is, e) (inr (inl wrong)) =
+            let has : (old.slots q).context ≡ Some (context O body (Waiting x kept)) = ap (λ (k : Slot O). k.context) (slot_is q s _ at is) ∙ cond_here n _ _ in
+            let c : context O body (Waiting x kept) ≡ context O wrong.0 (Waiting wrong.1 wrong.2) = some_context (sym has ∙ wrong.3) in
+            let z : true ≡ false = sym (subst (Right O) is knows.right) ∙ (λ i. fits_done O (pause_of x (c i).state) (c i).body.user d) ∙ wrong.4 in cc
+        go (body, kept, x, y, is, e) (inr (inr wrong)) = child d.child (ap (brings O) is) wrong
+    fits (Poke q) from s knows at own h mis = mis
+    fits (Half places) from s knows at own h mis = mis
+    fits (Go q to hops line) from s knows at own h mis = mis
+    fits (NotHere q to hops line) from s knows at own h mis = way_tells O q s (way O from n (NotHere q to hops line)) h
+    fits (Ask q need) from s knows at own h mis = go (way_tells O q s (way O from n (Ask q need)) h) mis
+      where
+        go : (body : Body O) × (line : Option ℕ) × (s ≡ Asks from body n line need) → Misfit O n from old (Ask q need) → ⊥
+        go (body, line, is) (inl x) = x (ap (λ (k : Slot O). k.context) (slot_is q s _ at is) ∙ cond_off n from _ _ (subst (Aims O) is knows.aims))
+        go (body, line, is) (inr (inl x)) = x (ap (λ (k : Slot O). k.reserve) (slot_is q s _ at is) ∙ cond_same (n == 0) None)
+        go (body, line, is) (inr (inr (inl x))) = knows.given (λ z. (let y = sym is ∙ z in cc)) x.0 x.1
+        go (body, line, is) (inr (inr (inr x))) =
+            let less = knows.few x.0 (ap (alive O) is) (ap (λ (k : Slot O). k.reserve) (slot_is q s _ at is) ∙ cond_same (n == 0) None) x.1 in
+            omega (arith, less, x.2)
+    fits (Allow q) from s knows at own h mis = go (way_tells O q s (way O from n (Allow q)) h)
+      where
+        go : (body : Body O) × (line : Option ℕ) × (need : ℕ) × (s ≡ Granted n body from line need) → ⊥
+        go (body, line, need, is) = mis body line (ap (λ (k : Slot O). k.context) (slot_is q s _ at is) ∙ cond_here n _ _)
+    fits (Deny q need free) from s knows at own h mis = go (way_tells O q s (way O from n (Deny q need free)) h)
+      where
+        go : (body : Body O) × (line : Option ℕ) × (s ≡ Denied n body from line need free) → ⊥
+        go (body, line, is) = mis body line (ap (λ (k : Slot O). k.context) (slot_is q s _ at is) ∙ cond_here n _ _)
+    fits (Move q u hops line) from s knows at own h mis = go (way_tells O q s (way O from n (Move q u hops line)) h) mis
+      where
+        go : (body : Body O) × (need : ℕ) × (s ≡ Travels from n body line need) × (body.user ≡ u) × (body.hops ≡ hops) → Misfit O n from old (Move q u hops line) → ⊥
+        go (body, need, is, eu, eh) (inl x) = x (ap (λ (k : Slot O). k.context) (slot_is q s _ at is) ∙ cond_same (n == 0) None)
+        go (body, need, is, eu, eh) (inr (inr x)) = x (ap O.pid_of (sym eu) ∙ subst (Named O q) is knows.named)
+        go (body, need, is, eu, eh) (inr (inl x)) =
+            let has : (old.slots q).reserve ≡ Some need = ap (λ (k : Slot O). k.reserve) (slot_is q s _ at is) ∙ cond_here n _ _ in
+            let z : None ≡ Some need = sym x ∙ has in cc
+    fits (Landed q source hops line) from s knows at own h mis = way_tells O q s (way O from n (Landed q source hops line)) h
+    fits (NoMove line) from s knows at own h mis = way_tells O 0 s (way O from n (NoMove line)) h
+
+    -- so many pids were given at home
+    abbrev births : ℕ
+    births = O.count (w.nodes 0).kernel
+
+    was_given : (q : ℕ) → n ≡ 0 → Given O births q → NeverGiven O old.kernel q → ⊥
+    was_given q home g (inl x) = omega (arith, g.0, x)
+    was_given q home g (inr x) = let e : O.count old.kernel ≡ births = ap (λ (k : ℕ). O.count (w.nodes k).kernel) home in omega (arith, g.1, x, e)
+
+    skip_own : (p : ℕ) (s : Spot O) → Knows p s → BoundOf births t.taken → At O p s w → Skips O n p old t new → ⊥
+    skip_own p s knows bound at d = go (mine O p d.note) refl d.misfit
+      where
+        bad : (m : Note O) → mine O p m ≡ false → pid_of_note O m ≡ p → Bound births m n → Misfit O n d.from old m → ⊥
         bad (Call q r) e f b mis = let z : true ≡ false = sym (same_numbers q p f) ∙ e in absurd cc
         bad (Pause q r) e f b mis = let z : true ≡ false = sym (same_numbers q p f) ∙ e in absurd cc
         bad (Reply q r) e f b mis = let z : true ≡ false = sym (same_numbers q p f) ∙ e in absurd cc
         bad (Poke q) e f b mis = mis
+        bad (Half places) e f b mis = mis
         bad (Go q to hops line) e f b mis = mis
-        bad (NotHere q to hops line) e f b mis = mis b.0
+        bad (NotHere q to hops line) e f b (inl x) = x b.0
+        bad (NotHere q to hops line) e f b (inr x) = was_given q b.0 b.3 x
         bad (Ask q need) e f b mis = let z : true ≡ false = sym (same_numbers q p f) ∙ e in absurd cc
         bad (Allow q) e f b mis = let z : true ≡ false = sym (same_numbers q p f) ∙ e in absurd cc
         bad (Deny q need free) e f b mis = let z : true ≡ false = sym (same_numbers q p f) ∙ e in absurd cc
         bad (Move q u hops line) e f b mis = let z : true ≡ false = sym (same_numbers q p f) ∙ e in absurd cc
-        bad (Landed q source hops line) e f b mis = mis b.0
+        bad (Landed q source hops line) e f b (inl x) = x b.0
+        bad (Landed q source hops line) e f b (inr x) = was_given q b.0 b.3 x
         bad (NoMove line) e f b mis = mis b
 
-        near : (m : Note O) → Bound m n → FarNode O m → ⊥
+        near : (m : Note O) → Bound births m n → FarNode O m → ⊥
         near (Call q r) b far = far
         near (Pause q r) b far = far
         near (Reply q r) b far = far
         near (Poke q) b far = far
+        near (Half places) b far = not_far O.nodes places b far
         near (Go q to hops line) b far = omega (arith, b.1, far)
         near (NotHere q to hops line) b far = omega (arith, b.2, far)
         near (Ask q need) b far = far
@@ -135,14 +175,19 @@ module _ (O : Ops) where
         near (Landed q source hops line) b far = omega (arith, b.2, far)
         near (NoMove line) b far = far
 
-        here : Bound d.note n × (d.from < O.nodes)
-        here = subst BoundOf d.base.took bound
+        here : Bound births d.note n × (d.from < O.nodes)
+        here = subst (BoundOf births) d.base.took bound
+
+        own : mine O p d.note ≡ true → mine O (pid_of_note O d.note) d.note ≡ true
+        own e = subst (λ (k : ℕ). mine O k d.note ≡ true) (sym d.pid) e
 
         go : (b : Bool) → mine O p d.note ≡ b → Misfit O n d.from old d.note ⊎ ((O.nodes ≤ d.from) ⊎ FarNode O d.note) → ⊥
         go b e (inr (inl far)) = omega (arith, here.1, far)
         go b e (inr (inr far)) = near d.note here.0 far
         go false e (inl mis) = bad d.note e d.pid here.0 mis
-        go true e (inl mis) = fits p s aims at d.note d.from d.pid e (took_way O p s w v at _ None (takes_in O w t v goes p _ [] d.base.took d.base.posts e tt)) mis
+        go true e (inl mis) =
+            fits d.note d.from s (subst (λ (k : ℕ). Knows k s) (sym d.pid) knows) (subst (λ (k : ℕ). At O k s w) (sym d.pid) at) (own e)
+            (subst (λ (k : ℕ). way_by O k s ≡ Some (way O d.from n d.note)) (sym d.pid) (took_way O p s w v at _ None (takes_in O w t v goes p _ [] d.base.took d.base.posts e tt))) mis
 
     served_own : (manner : Manner) (p : ℕ) (number : Option ℕ) (value : Option ℤ) (child signal : Option ℕ) (ends : Option End) (more : Bool) (poked : List ℕ) (s : Spot O) → At O p s w → ServedBy O manner n p number value child signal ends more poked old t new
         → Turned O (λ r. ServedSo O manner n p number value child signal ends more poked old new s r) p v
@@ -150,8 +195,7 @@ module _ (O : Ops) where
     served_own Did p number value child signal ends more poked s at (inr d) = retry_own O w t v goes p Did number value child signal ends more poked s at d
     served_own Broke p number value child signal ends more poked s at (inl d) = serve_own O w t v goes p Broke number value child signal ends more poked s at d
     served_own Broke p number value child signal ends more poked s at (inr d) = retry_own O w t v goes p Broke number value child signal ends more poked s at d
-    served_own Fell p number value child signal ends more poked s at (inl d) = serve_own O w t v goes p Fell number value child signal ends more poked s at d
-    served_own Fell p number value child signal ends more poked s at (inr d) = retry_own O w t v goes p Fell number value child signal ends more poked s at d
+    served_own Fell p number value child signal ends more poked s at d = serve_own O w t v goes p Fell number value child signal ends more poked s at d
     served_own Paused p number value child signal ends more poked s at d = pause_own O w t v goes p number value child signal ends more poked s at d
 
     poked_own : (used : Bool) (p : ℕ) (s : Spot O) → At O p s w → PokedBy O used n p old t new → Turned O (λ r. Quiet O (PokedSo O used n s r) old new) p v
@@ -161,37 +205,39 @@ module _ (O : Ops) where
     stays : (p : ℕ) (s : Spot O) (taken : Option (Post O)) (posted : List (Post O)) → At O p s w → Letters O p None None w v → Base O p None taken posted (same O) (same O) old t new → At O p s v
     stays p s taken posted at l b = stay_own O w t v goes p s taken posted at l b
 
-    pub own_at : (what : Deed) (s : Spot O) → (O.count old.kernel < pid_of what → n ≡ 0 → s ≡ Nowhere) → Aims O s → BoundOf t.taken → At O (pid_of what) s w → Does O what n old t new → Turned O (Needs O what n old new s) (pid_of what) v
-    own_at (Run line i p) s born aims bound at d = launch_own O w t v goes line i p s (born (omega (arith, d.next)) d.home) at d
-    own_at (Kill line p g poked) s born aims bound at d = (s, record { home = d.home; signal_is = d.signal_is; kernel = d.kernel; tells = d.tells; now = refl }, stays p s _ _ at (silent O w t v goes p _ d.base.took d.base.posts (pokes_loose O p t.event.stamp old.believed poked)) d.base)
-    own_at (Bid line p to) s born aims bound at d = (s, record { is = record { why = (d.home, d.live); now = refl }; kernel = d.kernel }, stays p s _ _ at (silent O w t v goes p _ d.base.took d.base.posts (refl, tt)) d.base)
-    own_at (Unsent line p never) s born aims bound at d = (s, record { is = record { why = (d.home, d.why); now = refl }; kernel = d.kernel }, stays p s _ _ at (silent O w t v goes p _ d.base.took d.base.posts tt) d.base)
-    own_at (Other line input) s born aims bound at d = (s, record { home = d.home; text = d.text; kernel = d.kernel; now = refl }, stays 0 s _ _ at (silent O w t v goes 0 _ d.base.took d.base.posts tt) d.base)
-    own_at (Steps p k) s born aims bound at d = step_own O w t v goes p k s at d
-    own_at (Sent p k) s born aims bound at d = send_own O w t v goes p k s at d
-    own_at (Heed p) s born aims bound at d = heed_own O w t v goes p s at d
-    own_at (Held p k) s born aims bound at d = hold_own O w t v goes p k s at d
-    own_at (Served p manner number value child signal ends more poked) s born aims bound at d = served_own manner p number value child signal ends more poked s at d
-    own_at (Got p child ended kept) s born aims bound at d = get_own O w t v goes p child ended kept s at d
-    own_at (Poked p used) s born aims bound at d = poked_own used p s at d
-    own_at (Begin p to line) s born aims bound at d = begin_own O w t v goes p to line s at d
-    own_at (Keep p to line) s born aims bound at d = keep_own O w t v goes p to line s at d
-    own_at (Missed p to line) s born aims bound at d = miss_own O w t v goes p to line s at d
-    own_at (Again p to place line) s born aims bound at d = (s, record { is = record { why = (d.home, d.live); now = refl }; kernel = d.still.kernel }, stays p s _ _ at (loose_in O w t v goes p _ _ d.base.took d.base.posts refl (refl, tt)) d.base)
-    own_at (Allows p from need) s born aims bound at d = grant_own O w t v goes p from need s at d
-    own_at (Denies p from need free) s born aims bound at d = refuse_own O w t v goes p from need free s at d
-    own_at (Depart p to) s born aims bound at d = depart_own O w t v goes p to s at d
-    own_at (Stay p to need free) s born aims bound at d = stay_here_own O w t v goes p to need free s at d
-    own_at (Land p source) s born aims bound at d = land_own O w t v goes p source s at d
-    own_at (Told p at2 source hops line poked) s born aims bound at d = (s, record { is = record { why = (d.home, d.tells); now = refl }; kernel = d.kernel }, stays p s _ _ at (loose_in O w t v goes p _ _ d.base.took d.base.posts refl (go poked _ _)) d.base)
+    pub own_at : (what : Deed) (s : Spot O) → (O.count old.kernel < pid_of what → n ≡ 0 → s ≡ Nowhere) → Knows (pid_of what) s → BoundOf births t.taken → At O (pid_of what) s w → Does O what n old t new → Turned O (Needs O what n old new s) (pid_of what) v
+    own_at (Run line i p) s born knows bound at d = launch_own O w t v goes line i p s (born (omega (arith, d.next)) d.home) at d
+    own_at (Kill line p g poked) s born knows bound at d = (s, record { home = d.home; signal_is = d.signal_is; kernel = d.kernel; tells = d.tells; now = refl }, stays p s _ _ at (silent O w t v goes p _ d.base.took d.base.posts (pokes_loose O p t.event.stamp old.believed poked)) d.base)
+    own_at (Bid line p to) s born knows bound at d = (s, record { is = record { why = (d.home, d.live); now = refl }; kernel = d.kernel }, stays p s _ _ at (silent O w t v goes p _ d.base.took d.base.posts (refl, tt)) d.base)
+    own_at (Unsent line p never) s born knows bound at d = (s, record { is = record { why = (d.home, d.why); now = refl }; kernel = d.kernel }, stays p s _ _ at (silent O w t v goes p _ d.base.took d.base.posts tt) d.base)
+    own_at (Other line input) s born knows bound at d = (s, record { home = d.home; text = d.text; kernel = d.kernel; now = refl }, stays 0 s _ _ at (silent O w t v goes 0 _ d.base.took d.base.posts tt) d.base)
+    own_at (Steps p k) s born knows bound at d = step_own O w t v goes p k s at d
+    own_at (Sent p k) s born knows bound at d = send_own O w t v goes p k s at d
+    own_at (Heed p) s born knows bound at d = heed_own O w t v goes p s at d
+    own_at (Held p k) s born knows bound at d = hold_own O w t v goes p k s at d
+    own_at (Served p manner number value child signal ends more poked) s born knows bound at d = served_own manner p number value child signal ends more poked s at d
+    own_at (Got p child ended kept) s born knows bound at d = get_own O w t v goes p child ended kept s at d
+    own_at (Poked p used) s born knows bound at d = poked_own used p s at d
+    own_at (Begin p to reason) s born knows bound at d = begin_own O w t v goes p to reason s at d
+    own_at (Keep p to line) s born knows bound at d = keep_own O w t v goes p to line s at d
+    own_at (Missed p to line) s born knows bound at d = miss_own O w t v goes p to line s at d
+    own_at (Again p to place line) s born knows bound at d = (s, record { is = record { why = (d.home, d.live); now = refl }; kernel = d.still.kernel }, stays p s _ _ at (loose_in O w t v goes p _ _ d.base.took d.base.posts refl (refl, tt)) d.base)
+    own_at (Allows p from need) s born knows bound at d = grant_own O w t v goes p from need s at d
+    own_at (Denies p from need free) s born knows bound at d = refuse_own O w t v goes p from need free s at d
+    own_at (Depart p to) s born knows bound at d = depart_own O w t v goes p to s at d
+    own_at (Stay p to need free) s born knows bound at d = stay_here_own O w t v goes p to need free s at d
+    own_at (Land p source) s born knows bound at d = land_own O w t v goes p source s at d
+    own_at (Told p at2 source hops line poked) s born knows bound at d = (s, record { is = record { why = (d.home, d.tells); now = refl }; kernel = d.kernel }, stays p s _ _ at (loose_in O w t v goes p _ _ d.base.took d.base.posts refl (go poked _ _)) d.base)
       where
         go : (b : Bool) (to stamp : ℕ) → Loose O p (cond b (letter O n to stamp (Poke p) ∷ []) [])
         go true to stamp = (refl, tt)
         go false to stamp = tt
-    own_at (Refused p to why line) s born aims bound at (inl d) = (s, record { is = record { why = inl d.was; now = refl }; kernel = d.still.kernel }, stays p s _ _ at (loose_in O w t v goes p _ _ d.base.took d.base.posts refl (refl, tt)) d.base)
-    own_at (Refused p to why line) s born aims bound at (inr d) = (s, record { is = record { why = inr (d.home, (d.hops, d.was)); now = refl }; kernel = d.still.kernel }, stays p s _ _ at (loose_in O w t v goes p _ _ d.base.took d.base.posts refl tt) d.base)
-    own_at (Closed line) s born aims bound at d = (s, record { is = record { why = d.home; now = refl }; kernel = d.still.kernel }, stays 0 s _ _ at (loose_in O w t v goes 0 _ _ d.base.took d.base.posts refl tt) d.base)
-    own_at (Strange p) s born aims bound at d = absurd (skip_own p s aims bound at d)
+    own_at (Refused p to why line) s born knows bound at (inl d) = (s, record { is = record { why = inl d.was; now = refl }; kernel = d.still.kernel }, stays p s _ _ at (loose_in O w t v goes p _ _ d.base.took d.base.posts refl (refl, tt)) d.base)
+    own_at (Refused p to why line) s born knows bound at (inr d) = (s, record { is = record { why = inr (d.home, (d.hops, d.was)); now = refl }; kernel = d.still.kernel }, stays p s _ _ at (loose_in O w t v goes p _ _ d.base.took d.base.posts refl tt) d.base)
+    own_at (Closed line) s born knows bound at d = (s, record { is = record { why = d.home; now = refl }; kernel = d.still.kernel }, stays 0 s _ _ at (loose_in O w t v goes 0 _ _ d.base.took d.base.posts refl tt) d.base)
+    own_at (Gossips false other) s born knows bound at d = (s, record { is = record { why = tt; now = refl }; kernel = d.still.kernel }, stays 0 s _ _ at (silent O w t v goes 0 _ d.base.took d.base.posts (refl, tt)) d.base)
+    own_at (Gossips true other) s born knows bound at d = (s, record { is = record { why = tt; now = refl }; kernel = d.still.kernel }, stays 0 s _ _ at (loose_in O w t v goes 0 _ _ d.base.took d.base.posts refl tt) d.base)
+    own_at (Strange p) s born knows bound at d = absurd (skip_own p s knows bound at d)
 
     -- what an event leaves alone of a process that it is not about
     frame : (p : ℕ) (child : Option ℕ) (taken : Option (Post O)) (posted : List (Post O)) (change born : Slot O → Slot O) → Base O p child taken posted change born old t new → TakenOf O p taken → AllOf O p posted
@@ -213,8 +259,7 @@ module _ (O : Ops) where
     served_frame Did p number value child signal ends more poked (inr d) q s ne at = frame p None _ _ _ _ d.base tt (refl, pokes_of O p t.event.stamp old.believed poked) q s ne refl at
     served_frame Broke p number value child signal ends more poked (inl d) q s ne at = frame p None _ _ _ _ d.base refl (refl, pokes_of O p t.event.stamp old.believed poked) q s ne refl at
     served_frame Broke p number value child signal ends more poked (inr d) q s ne at = frame p None _ _ _ _ d.base tt (refl, pokes_of O p t.event.stamp old.believed poked) q s ne refl at
-    served_frame Fell p number value child signal ends more poked (inl d) q s ne at = frame p None _ _ _ _ d.base refl (refl, pokes_of O p t.event.stamp old.believed poked) q s ne refl at
-    served_frame Fell p number value child signal ends more poked (inr d) q s ne at = frame p None _ _ _ _ d.base tt (refl, pokes_of O p t.event.stamp old.believed poked) q s ne refl at
+    served_frame Fell p number value child signal ends more poked d q s ne at = frame p None _ _ _ _ d.base refl (refl, pokes_of O p t.event.stamp old.believed poked) q s ne refl at
     served_frame Paused p number value child signal ends more poked d q s ne at = frame p None _ _ _ _ d.base refl (refl, pokes_of O p t.event.stamp old.believed poked) q s ne refl at
 
     told_all : (p to : ℕ) (b : Bool) → AllOf O p (cond b (letter O n to t.event.stamp (Poke p) ∷ []) [])
@@ -235,7 +280,9 @@ module _ (O : Ops) where
     other_at (Got p child ended kept) d q s ne h at = frame p child _ _ _ _ d.base refl (got_all p d.body d.keeps d.done) q s ne h at
     other_at (Poked p true) d q s ne h at = frame p None _ _ _ _ d.base tt tt q s ne refl at
     other_at (Poked p false) d q s ne h at = frame p None _ _ _ _ d.base tt tt q s ne refl at
-    other_at (Begin p to line) d q s ne h at = frame p None _ _ _ _ d.base tt (refl, tt) q s ne refl at
+    other_at (Begin p to (ForLine line)) d q s ne h at = frame p None _ _ _ _ d.base tt (refl, tt) q s ne refl at
+    other_at (Begin p to (Chosen false other)) d q s ne h at = frame p None _ _ _ _ d.base tt (tt, (refl, tt)) q s ne refl at
+    other_at (Begin p to (Chosen true other)) d q s ne h at = frame p None _ _ _ _ d.base tt (refl, tt) q s ne refl at
     other_at (Keep p to line) d q s ne h at = frame p None _ _ _ _ d.base tt tt q s ne refl at
     other_at (Missed p to line) d q s ne h at = frame p None _ _ _ _ d.base tt (tt, tt) q s ne refl at
     other_at (Again p to place line) d q s ne h at = frame p None _ _ _ _ d.base tt (tt, tt) q s ne refl at
@@ -248,6 +295,8 @@ module _ (O : Ops) where
     other_at (Refused p to why line) (inl d) q s ne h at = frame p None _ _ _ _ d.base tt (tt, tt) q s ne refl at
     other_at (Refused p to why line) (inr d) q s ne h at = frame p None _ _ _ _ d.base tt tt q s ne refl at
     other_at (Closed line) d q s ne h at = frame 0 None _ _ _ _ d.base tt tt q s ne refl at
+    other_at (Gossips false other) d q s ne h at = frame 0 None _ _ _ _ d.base tt (tt, tt) q s ne refl at
+    other_at (Gossips true other) d q s ne h at = frame 0 None _ _ _ _ d.base tt tt q s ne refl at
     other_at (Strange p) d q s ne h at = frame p None _ _ _ _ d.base (skip_of d.note d.pid) tt q s ne refl at
       where
         skip_of : (m : Note O) → pid_of_note O m ≡ p → Of O p m
@@ -255,6 +304,7 @@ module _ (O : Ops) where
         skip_of (Pause r x) e = e
         skip_of (Reply r x) e = e
         skip_of (Poke r) e = tt
+        skip_of (Half places) e = tt
         skip_of (Go r to hops line) e = tt
         skip_of (NotHere r to hops line) e = tt
         skip_of (Ask r need) e = e

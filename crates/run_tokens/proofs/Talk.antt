@@ -2,7 +2,7 @@
 use Rattle.std.proofs.Common.{◌≡◌, ◌≢◌, ℕ, ◌==◌, ◌&&◌, Bool, true, false, cond, Option, Some, None, List, [], ◌∷◌, ◌++◌, refl, sym, ap, ◌∙◌, subst, arith}
 use Rattle.std.proofs.lemmas.Bool.Decides.{nat_tests}
 use Rattle.run_tokens.specs.Ops.{Ops}
-use Rattle.run_tokens.specs.Notes.{Note, Call, Pause, Reply, Poke, Go, NotHere, Ask, Allow, Deny, Move, Landed, NoMove, Post, Way, way, Believed}
+use Rattle.run_tokens.specs.Notes.{Note, Call, Pause, Reply, Poke, Half, Go, NotHere, Ask, Allow, Deny, Move, Landed, NoMove, Post, Way, way, Believed}
 use Rattle.run_tokens.specs.Spots.{mine}
 use Rattle.run_tokens.specs.Cluster.{for_link, at_front}
 use Rattle.run_tokens.specs.Home.{pokes, line_closed}
@@ -42,6 +42,7 @@ module _ (O : Ops) where
   Of p (Pause q r) = q ≡ p
   Of p (Reply q d) = q ≡ p
   Of p (Poke q) = Unit {0}
+  Of p (Half places) = Unit {0}
   Of p (Go q to hops line) = Unit {0}
   Of p (NotHere q to hops line) = Unit {0}
   Of p (Ask q need) = q ≡ p
@@ -67,6 +68,7 @@ module _ (O : Ops) where
   of_other p q (Pause r x) o ne = apart p q r o ne
   of_other p q (Reply r d) o ne = apart p q r o ne
   of_other p q (Poke r) o ne = refl
+  of_other p q (Half places) o ne = refl
   of_other p q (Go r to hops line) o ne = refl
   of_other p q (NotHere r to hops line) o ne = refl
   of_other p q (Ask r need) o ne = apart p q r o ne
@@ -114,6 +116,14 @@ module _ (O : Ops) where
     where
       go : (x : Bool) → talk p (for_link O a b ls) ≡ [] → talk p (cond x (l ∷ for_link O a b ls) (for_link O a b ls)) ≡ cond x (l.note ∷ []) []
       go true e = rw h (ap (λ (w : List (Note O)). l.note ∷ w) e)
+      go false e = e
+
+  -- after one that this process does not hear
+  pub talk_second : (p a b : ℕ) (l m : Post O) (ls : List (Post O)) → mine O p l.note ≡ false → mine O p m.note ≡ true → Loose p ls → talk p (for_link O a b (l ∷ m ∷ ls)) ≡ on_link (Some (way O m.from m.to m.note)) a b
+  talk_second p a b l m ls h g k = go ((a == l.from) && (b == l.to)) (talk_own p a b m ls g k)
+    where
+      go : (x : Bool) → talk p (for_link O a b (m ∷ ls)) ≡ on_link (Some (way O m.from m.to m.note)) a b → talk p (cond x (l ∷ for_link O a b (m ∷ ls)) (for_link O a b (m ∷ ls))) ≡ on_link (Some (way O m.from m.to m.note)) a b
+      go true e = rw h e
       go false e = e
 
   pub heard_own : (p a b : ℕ) (l : Post O) → mine O p l.note ≡ true → talk p (at_front O (Some l) a b) ≡ on_link (Some (way O l.from l.to l.note)) a b

@@ -1,6 +1,7 @@
 -- The nodes and links together, as a transition system.
 use Rattle.std.specs.Prelude.{◌≡◌, ◌≢◌, ℕ, ◌==◌, ◌&&◌, cond, Option, Some, None, List, ◌∷◌, map, ◌++◌, []}
 use Rattle.run_tokens.specs.Ops.{Ops}
+use Rattle.run_tokens.specs.Gossip.{no_gossip}
 use Rattle.run_tokens.specs.Deeds.{Noted}
 use Rattle.run_tokens.specs.Notes.{no_progress, Post, Turn, Local}
 use Rattle.run_tokens.specs.Does.{Makes}
@@ -36,6 +37,7 @@ module _ (O : Ops) where
   pub record Fresh (n : ℕ) (l : Local O) : Type 0 where
     pub clock : l.clock ≡ 0
     pub slots : (p : ℕ) → l.slots p ≡ record { context = None; reserve = None; call = None }
+    pub gossip : l.gossip ≡ no_gossip
     pub home : n ≡ 0 → FreshHome l
 
   -- nor anywhere

@@ -32,6 +32,17 @@ pub record KeptTold : Type 0 where
   pub ends : Bool
   pub to : ℕ
 
+-- why a context begins to move: its node took a letter that asks for it, for a line of the script, or chose so at a half, which it sent to another node or
+-- heard from it
+pub data Reason : Type 0 where
+  ForLine : (line : ℕ) → Reason
+  Chosen : (heard : Bool) (other : ℕ) → Reason
+
+-- a policy's move has no line
+abbrev pub line_for : Reason → Option ℕ
+line_for (ForLine line) = Some line
+line_for (Chosen heard other) = None
+
 -- what a line does to the terminal's input
 pub data Input : Type 0 where
   Text : (index : ℕ) → Input
@@ -52,7 +63,7 @@ pub data Deed : Type 0 where
   Served : (pid : ℕ) (manner : Manner) (number : Option ℕ) (value : Option ℤ) (child signal : Option ℕ) (ends : Option End) (more : Bool) (poked : List ℕ) → Deed
   Got : (pid : ℕ) (child : Option ℕ) (ended : Bool) (kept : Option KeptTold) → Deed
   Poked : (pid : ℕ) (used : Bool) → Deed
-  Begin : (pid to line : ℕ) → Deed
+  Begin : (pid to : ℕ) (reason : Reason) → Deed
   Keep : (pid to line : ℕ) → Deed
   Missed : (pid to line : ℕ) → Deed
   Again : (pid to place line : ℕ) → Deed
@@ -64,6 +75,8 @@ pub data Deed : Type 0 where
   Told : (pid at source hops : ℕ) (line : Option ℕ) (poked : Bool) → Deed
   Refused : (pid to : ℕ) (why : Why) (line : ℕ) → Deed
   Closed : (line : ℕ) → Deed
+  -- a half that is sent or heard, without a choice
+  Gossips : (heard : Bool) (other : ℕ) → Deed
   -- what no lawful event is: a letter that does not fit, or fields that fit no line
   Strange : (pid : ℕ) → Deed
 
@@ -86,7 +99,7 @@ pid_of (Held p k) = p
 pid_of (Served p manner number value child signal ends more poked) = p
 pid_of (Got p child ended kept) = p
 pid_of (Poked p used) = p
-pid_of (Begin p to line) = p
+pid_of (Begin p to reason) = p
 pid_of (Keep p to line) = p
 pid_of (Missed p to line) = p
 pid_of (Again p to place line) = p
@@ -98,6 +111,7 @@ pid_of (Land p source) = p
 pid_of (Told p at source hops line poked) = p
 pid_of (Refused p to why line) = p
 pid_of (Closed line) = 0
+pid_of (Gossips heard other) = 0
 pid_of (Strange p) = p
 
 -- the child that an event names
@@ -114,7 +128,7 @@ child_of (Held p k) = None
 child_of (Served p manner number value child signal ends more poked) = child
 child_of (Got p child ended kept) = child
 child_of (Poked p used) = None
-child_of (Begin p to line) = None
+child_of (Begin p to reason) = None
 child_of (Keep p to line) = None
 child_of (Missed p to line) = None
 child_of (Again p to place line) = None
@@ -126,6 +140,7 @@ child_of (Land p source) = None
 child_of (Told p at source hops line poked) = None
 child_of (Refused p to why line) = None
 child_of (Closed line) = None
+child_of (Gossips heard other) = None
 child_of (Strange p) = None
 
 -- the order of a line, and how many `run` lines and `type` lines stand before it
@@ -220,6 +235,12 @@ why_of refusal.Ended = Gone
 why_of refusal.Moving = Moving
 why_of refusal.There = There
 
+-- a half chooses a process and its target, or neither
+abbrev pub half_deed : Bool → ℕ → Option ℕ → Option ℕ → Deed
+half_deed heard other None None = Gossips heard other
+half_deed heard other (Some p) (Some to) = Begin p to (Chosen heard other)
+half_deed heard other _ _ = Strange 0
+
 abbrev pub deed_of : List ScriptLine → What → Deed
 deed_of script (what.Command line launched unsent poked) = command_deed (order_at line script) line (runs_before line script) (feeds_before line script) launched unsent poked
 deed_of script (what.Steps p k) = Steps p k
@@ -229,7 +250,7 @@ deed_of script (what.Held p number) = Held p number
 deed_of script (what.Served p way number value taken end more poked poked_too) = served_deed p (manner_of way) number value taken end more poked poked_too
 deed_of script (what.Got p child ended kept to) = got_deed p child ended kept to
 deed_of script (what.Poked p used) = Poked p used
-deed_of script (what.Begin p to line) = Begin p to line
+deed_of script (what.Begin p to line) = Begin p to (ForLine line)
 deed_of script (what.Keep p to line) = Keep p to line
 deed_of script (what.Missed p to line) = Missed p to line
 deed_of script (what.Again p to place line) = Again p to place line
@@ -241,6 +262,8 @@ deed_of script (what.Land p source) = Land p source
 deed_of script (what.Told p at source hops line poked) = told_deed p at source hops line poked
 deed_of script (what.Refused p to why line) = Refused p to (why_of why) line
 deed_of script (what.Closed line) = Closed line
+deed_of script (what.Half other chosen to) = half_deed false other chosen to
+deed_of script (what.Heard other chosen to) = half_deed true other chosen to
 deed_of script _ = Strange 0
 
 abbrev pub noted : List ScriptLine → Event → Noted

@@ -33,6 +33,10 @@ module _ (O : Ops) where
     pub given : (1 ≤ p) × (p ≤ O.count k)
     pub dead : O.live k p ≡ false
 
+  -- the pid was given, of so many
+  abbrev pub Given : ℕ → ℕ → Type 0
+  Given count p = (1 ≤ p) × (p ≤ count)
+
   -- the pid was never given
   abbrev pub NeverGiven : O.Kernel → ℕ → Type 0
   NeverGiven k p = (p ≡ 0) ⊎ (O.count k < p)
@@ -49,6 +53,25 @@ module _ (O : Ops) where
   abbrev pub enter : O.User → Option O.Taken → O.User
   enter u None = u
   enter u (Some t) = O.entered u t
+
+  -- the answer of a reply is none exactly after a `heed` and for a fault
+  abbrev pub forwards : Option O.Request → Bool
+  forwards None = false
+  forwards (Some r) = not (O.number r == 0)
+
+  abbrev pub fits_given : Bool → O.User → Option O.Answer → Bool
+  fits_given true u None = true
+  fits_given true u (Some a) = false
+  fits_given false u None = not (forwards (O.asks u))
+  fits_given false u (Some a) = forwards (O.asks u) && O.fits_answer u a
+
+  abbrev pub fits_entered : O.User → Option O.Taken → Bool
+  fits_entered u None = true
+  fits_entered u (Some t) = O.fits_taken u t
+
+  -- what comes fits a context that waits for its call, or for its pause: its answer, and then the signal that is taken
+  abbrev pub fits_done : Bool → O.User → Done O → Bool
+  fits_done pause u d = fits_given pause u d.answer && fits_entered (give u d.answer) d.taken
 
   abbrev pub after : O.User → Done O → O.User
   after u d = enter (give u d.answer) d.taken

@@ -1,3 +1,4 @@
+pub mod Gossip
 pub mod Ops
 pub mod Deeds
 pub mod Notes
@@ -5,4 +6,6 @@ pub mod Spots
 pub mod Home
 pub mod Does
 pub mod Cluster
+pub mod Odd
 pub mod Needs
+pub mod Rests

@@ -1,10 +1,10 @@
 -- What each event needs of its process's spot, and what it makes of it. All laws follow from this alone.
-use Rattle.std.specs.Prelude.{◌≡◌, ◌≢◌, ℕ, nat_lt, ◌-◌, ◌≤◌, ℤ, ◌+◌, ◌<◌, ◌==◌, ◌⊎◌, Bool, true, false, cond, Option, Some, None, List}
+use Rattle.std.specs.Prelude.{◌≡◌, ◌≢◌, ℕ, nat_lt, ◌-◌, ◌≤◌, ℤ, ◌+◌, ◌<◌, ◌==◌, ◌⊎◌, Bool, true, false, not, cond, Option, Some, None, List}
 use Rattle.call_table.specs.declared.process.End.{End}
 use Rattle.run_tokens.specs.Ops.{Ops, IsMove, is_child, typed, has_text}
-use Rattle.run_tokens.specs.Deeds.{Input, Manner, Did, Broke, Fell, Paused, KeptTold, Deed, Run, Kill, Bid, Unsent, Other, Steps, Sent, Heed, Held, Served, Got, Poked, Begin, Keep, Missed, Again, Allows, Denies, Depart, Stay, Land, Told, Refused, Closed, Strange, pid_of, child_of}
+use Rattle.run_tokens.specs.Deeds.{Input, Manner, Did, Broke, Fell, Paused, KeptTold, ForLine, line_for, Deed, Run, Kill, Bid, Unsent, Other, Steps, Sent, Heed, Held, Served, Got, Poked, Begin, Keep, Missed, Again, Allows, Denies, Depart, Stay, Land, Told, Refused, Closed, Gossips, Strange, pid_of, child_of}
 use Rattle.run_tokens.specs.Notes.{Done, Body, fresh, Kept, Local, is_some}
-use Rattle.run_tokens.specs.Home.{both, UnsentFor, returned, after, First, last, Acts, Answers, done_of, first_none, to_poke}
+use Rattle.run_tokens.specs.Home.{both, UnsentFor, returned, after, First, last, Acts, Answers, done_of, first_none, to_poke, fits_done}
 use Rattle.run_tokens.specs.Spots.{Spot, Nowhere, Runs, Calls, Holds, Pauses, Answered, Asks, Granted, Denied, Travels, InReply, Ended}
 use Rattle.run_tokens.specs.Does.{Quantum, InUse, pokes_of, kept_told, RefusedFor, NoNews}
 
@@ -228,11 +228,11 @@ module _ (O : Ops) where
   PokedSo true n s r = Marked n s r
   PokedSo false n s r = Dropped n s r
 
-  pub record Begun (n to line : ℕ) (s r : Spot O) : Type 0 where
+  pub record Begun (n to : ℕ) (line : Option ℕ) (s r : Spot O) : Type 0 where
     pub body : Body O
     pub away : to ≢ n
     pub was : s ≡ Runs n body
-    pub now : r ≡ Asks n body to (Some line) (O.pages body.user)
+    pub now : r ≡ Asks n body to line (O.pages body.user)
 
   pub record KeptMove (n to line : ℕ) (s r : Spot O) : Type 0 where
     pub away : to ≢ n
@@ -299,7 +299,7 @@ module _ (O : Ops) where
   Needs (Served p manner number value child signal ends more poked) n old new s r = ServedSo manner n p number value child signal ends more poked old new s r
   Needs (Got p child ended kept) n old new s r = Quiet (GotReply n p child ended kept s r) old new
   Needs (Poked p used) n old new s r = Quiet (PokedSo used n s r) old new
-  Needs (Begin p to line) n old new s r = Quiet (Begun n to line s r) old new
+  Needs (Begin p to reason) n old new s r = Quiet (Begun n to (line_for reason) s r) old new
   Needs (Keep p to line) n old new s r = Quiet (KeptMove n to line s r) old new
   Needs (Missed p to line) n old new s r = Quiet (MissedIt n s r) old new
   Needs (Again p to place line) n old new s r = Quiet (Stayed ((n ≡ 0) × (O.live old.kernel p ≡ true)) s r) old new
@@ -311,11 +311,12 @@ module _ (O : Ops) where
   Needs (Told p at source hops line poked) n old new s r = Quiet (Stayed ((n ≡ 0) × (poked ≡ is_some (O.lowest old.kernel p))) s r) old new
   Needs (Refused p to why line) n old new s r = Quiet (Stayed ((RefusedFor O why n to (old.slots p).context) ⊎ ((n ≡ 0) × ((hops : ℕ) × NoNews O why p hops old))) s r) old new
   Needs (Closed line) n old new s r = Quiet (Stayed (n ≡ 0) s r) old new
+  Needs (Gossips heard other) n old new s r = Quiet (Stayed (Unit {0}) s r) old new
   Needs (Strange p) n old new s r = ⊥
 
   -- what an event that takes a loose letter has of it: its line asks for this move, or a landing is told with its number
   abbrev pub Names : Deed → Type 0
-  Names (Begin p to line) = IsMove O line p to
+  Names (Begin p to (ForLine line)) = IsMove O line p to
   Names (Keep p to line) = IsMove O line p to
   Names (Missed p to line) = IsMove O line p to
   Names (Again p to place line) = IsMove O line p to
@@ -356,6 +357,51 @@ module _ (O : Ops) where
   user_at (InReply q u) = u
   user_at (Ended u) = u
 
+  -- the kernel has it live
+  abbrev pub alive : Spot O → Bool
+  alive Nowhere = false
+  alive (Runs m b) = true
+  alive (Calls m b k r) = true
+  alive (Holds m b k r) = true
+  alive (Pauses m b k r) = true
+  alive (Answered m b k d x y) = not d.ended
+  alive (Asks m b to l need) = true
+  alive (Granted m b to l need) = true
+  alive (Denied m b to l need free) = true
+  alive (Travels a c b l need) = true
+  alive (InReply q u) = true
+  alive (Ended u) = false
+
+  -- what is under way for a process is what its user state asks, and what comes for it fits
+  abbrev pub Right : Spot O → Type 0
+  Right Nowhere = Unit {0}
+  Right (Runs m b) = Unit {0}
+  Right (Calls m b k r) = O.asks b.user ≡ Some r
+  Right (Holds m b k r) = O.asks b.user ≡ Some r
+  Right (Pauses m b k r) = O.room b.user ≡ r
+  Right (Answered m b k d x y) = fits_done O x b.user d ≡ true
+  Right (Asks m b to l need) = need ≡ O.pages b.user
+  Right (Granted m b to l need) = need ≡ O.pages b.user
+  Right (Denied m b to l need free) = need ≡ O.pages b.user
+  Right (Travels a c b l need) = need ≡ O.pages b.user
+  Right (InReply q u) = Unit {0}
+  Right (Ended u) = Unit {0}
+
+  -- its user state is its own
+  abbrev pub Named : ℕ → Spot O → Type 0
+  Named p Nowhere = Unit {0}
+  Named p (Runs m b) = O.pid_of b.user ≡ p
+  Named p (Calls m b k r) = O.pid_of b.user ≡ p
+  Named p (Holds m b k r) = O.pid_of b.user ≡ p
+  Named p (Pauses m b k r) = O.pid_of b.user ≡ p
+  Named p (Answered m b k d x y) = O.pid_of b.user ≡ p
+  Named p (Asks m b to l need) = O.pid_of b.user ≡ p
+  Named p (Granted m b to l need) = O.pid_of b.user ≡ p
+  Named p (Denied m b to l need free) = O.pid_of b.user ≡ p
+  Named p (Travels a c b l need) = O.pid_of b.user ≡ p
+  Named p (InReply q u) = O.pid_of u ≡ p
+  Named p (Ended u) = Unit {0}
+
   -- what an event makes of the spot of the child q that it names, its process being at s
   abbrev pub born_spot : Deed → ℕ → Spot O → ℕ → Spot O
   born_spot (Run line i p) n s q = s
@@ -370,7 +416,7 @@ module _ (O : Ops) where
   born_spot (Served p manner number value child signal ends more poked) n s q = InReply p (O.forked (user_at s) q)
   born_spot (Got p child ended kept) n s q = Runs n (fresh O (O.forked (user_at s) q))
   born_spot (Poked p used) n s q = s
-  born_spot (Begin p to line) n s q = s
+  born_spot (Begin p to reason) n s q = s
   born_spot (Keep p to line) n s q = s
   born_spot (Missed p to line) n s q = s
   born_spot (Again p to place line) n s q = s
@@ -382,6 +428,7 @@ module _ (O : Ops) where
   born_spot (Told p at source hops line poked) n s q = s
   born_spot (Refused p to why line) n s q = s
   born_spot (Closed line) n s q = s
+  born_spot (Gossips heard other) n s q = s
   born_spot (Strange p) n s q = s
 
   -- the spots after an event, whose process is then at r

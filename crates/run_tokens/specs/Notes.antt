@@ -1,6 +1,7 @@
 -- Letters between nodes, contexts, and what a node keeps of each process.
-use Rattle.std.specs.Prelude.{ℕ, ◌+◌, ◌==◌, cond, [], Bool, true, false, Option, Some, None, List}
+use Rattle.std.specs.Prelude.{◌≡◌, ℕ, ◌+◌, ◌==◌, cond, [], Bool, true, false, Option, Some, None, List}
 use Rattle.run_tokens.specs.Ops.{Ops}
+use Rattle.run_tokens.specs.Gossip.{Entry, Gossip}
 use Rattle.run_tokens.specs.Deeds.{Noted}
 
 pub record Kept : Type 0 where
@@ -9,7 +10,7 @@ pub record Kept : Type 0 where
 
 pub data State : Type 0 where
   Running : State
-  Waiting : (kept : Option Kept) → State
+  Waiting : (pause : Bool) (kept : Option Kept) → State
   Asking : (to : ℕ) (line : Option ℕ) → State
 
 -- the believed place of a process, and the most hops told
@@ -17,7 +18,7 @@ pub record Believed : Type 0 where
   pub place : ℕ
   pub hops : ℕ
 
--- how far the script has come: the last line that was carried out, how many were, the pids launched, and how many calls of each pid were served
+-- how far the script has come: the least line that may come next, how many were carried out, the pids launched, and how many calls of each pid were served
 pub record Progress : Type 0 where
   pub line : ℕ
   pub done : ℕ
@@ -26,6 +27,13 @@ pub record Progress : Type 0 where
 
 abbrev pub no_progress : Progress
 no_progress = record { line = 0; done = 0; launched = []; served = λ p. 0 }
+
+-- the same, with the calls of each pid
+pub record SameProgress (g h : Progress) : Type 0 where
+  pub line : g.line ≡ h.line
+  pub done : g.done ≡ h.done
+  pub launched : g.launched ≡ h.launched
+  pub served : (p : ℕ) → g.served p ≡ h.served p
 
 -- one more call of p was served
 abbrev pub served_one : ℕ → Progress → Progress
@@ -56,6 +64,7 @@ module _ (O : Ops) where
     Move : (pid : ℕ) (user : O.User) (hops : ℕ) (line : Option ℕ) → Note
     Landed : (pid source hops : ℕ) (line : Option ℕ) → Note
     NoMove : (line : ℕ) → Note
+    Half : (places : List (Option Entry)) → Note
 
   pub record Post : Type 0 where
     pub from : ℕ
@@ -103,6 +112,7 @@ module _ (O : Ops) where
     pub slots : ℕ → Slot
     pub believed : ℕ → Believed
     pub progress : Progress
+    pub gossip : Gossip
 
   pub record Way : Type 0 where
     pub from : ℕ

@@ -1,7 +1,7 @@
 -- Where a process is, in one word, and its pictures: what each node and each link then has of it.
-use Rattle.std.specs.Prelude.{ℕ, ◌==◌, Bool, false, cond, Option, Some, None}
+use Rattle.std.specs.Prelude.{ℕ, ◌==◌, Bool, true, false, cond, Option, Some, None}
 use Rattle.run_tokens.specs.Ops.{Ops}
-use Rattle.run_tokens.specs.Notes.{Kept, Running, Waiting, Asking, Done, Note, Call, Pause, Reply, Poke, Go, NotHere, Ask, Allow, Deny, Move, Landed, NoMove, Body, Context, context, Called, Slot, Way, way}
+use Rattle.run_tokens.specs.Notes.{Kept, Running, Waiting, Asking, Done, Note, Call, Pause, Reply, Poke, Half, Go, NotHere, Ask, Allow, Deny, Move, Landed, NoMove, Body, Context, context, Called, Slot, Way, way}
 
 module _ (O : Ops) where
   -- where a process is, and what is under way for it
@@ -37,10 +37,10 @@ module _ (O : Ops) where
   abbrev pub kept_at : Spot → Option (Context O)
   kept_at Nowhere = None
   kept_at (Runs n b) = Some (context O b Running)
-  kept_at (Calls n b k r) = Some (context O b (Waiting k))
-  kept_at (Holds n b k r) = Some (context O b (Waiting k))
-  kept_at (Pauses n b k r) = Some (context O b (Waiting k))
-  kept_at (Answered n b k d x y) = Some (context O b (Waiting k))
+  kept_at (Calls n b k r) = Some (context O b (Waiting false k))
+  kept_at (Holds n b k r) = Some (context O b (Waiting false k))
+  kept_at (Pauses n b k r) = Some (context O b (Waiting true k))
+  kept_at (Answered n b k d x y) = Some (context O b (Waiting x k))
   kept_at (Asks n b to l need) = Some (context O b (Asking to l))
   kept_at (Granted n b to l need) = Some (context O b (Asking to l))
   kept_at (Denied n b to l need free) = Some (context O b (Asking to l))
@@ -116,6 +116,7 @@ module _ (O : Ops) where
   mine p (Pause q r) = q == p
   mine p (Reply q d) = q == p
   mine p (Poke q) = false
+  mine p (Half places) = false
   mine p (Go q to hops line) = false
   mine p (NotHere q to hops line) = false
   mine p (Ask q need) = q == p

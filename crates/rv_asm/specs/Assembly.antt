@@ -1,5 +1,6 @@
 -- What a text assembles to.
 use Rattle.std.specs.Prelude.{ℕ, ◌+◌, ◌*◌, ◌%◌, Bool, not, ◌&&◌, ◌||◌, ◌==◌, nat_lt, List, [], ◌∷◌, ◌++◌, length, Option, Some, None, Result, Ok, Err, if◌then◌else◌}
+use Rattle.call_table.specs.declared.limit.TheConstants.{SOURCE_BYTES}
 use Rattle.rv_asm.specs.Keywords.{or_else, is_instruction}
 use Rattle.rv_asm.specs.Layout.{size_of, after_line, start, defined_from}
 use Rattle.rv_asm.specs.Lines.{lines_of}
@@ -126,7 +127,7 @@ assembled_lines lines = in_file (bss_of_all lines) (bytes_from (defined_from 1 s
 
 -- the most bytes that a text may have
 abbrev pub text_limit : ℕ
-text_limit = 1048576
+text_limit = SOURCE_BYTES
 
 abbrev pub assembled : List ℕ → Result (List ℕ) Fault
 assembled text =

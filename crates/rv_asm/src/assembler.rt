@@ -1,5 +1,6 @@
 // From a text to the file of its program.
 ghost use Rattle.std.specs.Prelude.{◌≡◌, ◌-◌, ◌<◌, ◌≤◌, ◌^◌, length, IfOk, IfErr, Ok};
+ghost use Rattle.call_table.specs.declared.limit.TheConstants.{SOURCE_BYTES};
 ghost use Rattle.rv_asm.specs.Lines.{lines_of};
 ghost use Rattle.rv_asm.specs.Layout.{start, defined_from};
 ghost use Rattle.rv_asm.specs.Assembly.{bytes_from, assembled_lines, assembled};
@@ -10,11 +11,9 @@ use crate::fault::{AsmError, Fault, FaultKind};
 use crate::file::write_file;
 use crate::layout::define;
 use crate::line::{Line, read_lines};
+use call_table::limit::SOURCE_BYTES;
 use call_table::{Bytes, NoMemory};
 use std::alloc::Global;
-
-// The most bytes that a text may have.
-const TEXT_LIMIT: usize = 1_048_576;
 
 #[tactic(auto, using(crate::proofs::EmitLemmas::same_labels))]
 fn code_of_lines(alloc: Global, lines: &[Line]) -> Result<Result<Bytes, Fault>, NoMemory>
@@ -39,7 +38,7 @@ fn assemble_lines(alloc: Global, lines: &[Line]) -> Result<Result<Bytes, Fault>,
 }
 
 fn assemble_text(alloc: Global, text: &[u8]) -> Result<Result<Bytes, Fault>, NoMemory>
-    requires { length text.now ≤ 1048576 }
+    requires { length text.now ≤ SOURCE_BYTES }
     ensures { IfOk result (λ file. file ≡ assembled_lines (lines_of text.now)) }
 {
     let lines = read_lines(alloc, text)?;
@@ -64,7 +63,7 @@ pub fn assemble(alloc: Global, text: &[u8]) -> Result<Bytes, AsmError>
     ensures ok { IfOk result (λ file. assembled text.now ≡ Ok file) }
     ensures refused { IfErr result (λ error. IsRefusal (assembled text.now) error) }
 {
-    if text.len() > TEXT_LIMIT {
+    if text.len() > SOURCE_BYTES as usize {
         let fault = Fault {
             line: 0,
             kind: FaultKind::TooLong,

@@ -15,7 +15,7 @@ use call_table::{Bytes, NoMemory};
 use rv_decode::{BranchOffset, Immediate, Instr, JumpOffset, Register, Upper, encode};
 
 /// The instructions of one statement.
-#[derive(Clone, Copy, Debug, PartialEq, Eq)]
+#[derive(Clone, Copy)]
 pub enum Code {
     Nothing,
     One(Instr),

@@ -3,7 +3,7 @@ ghost use Rattle.std.specs.Prelude.{◌≡◌};
 ghost use Rattle.rv_asm.specs.Keywords.{register_op, immediate_op, shift_op, load_op, store_op, branch_op, upper_op, plain_op, other_keyword, keyword_named, is_instruction};
 
 /// The instructions of three registers.
-#[derive(Clone, Copy, Debug, PartialEq, Eq)]
+#[derive(Clone, Copy)]
 pub enum RegisterOp {
     Add,
     Sub,
@@ -18,7 +18,7 @@ pub enum RegisterOp {
 }
 
 /// The instructions of two registers and an immediate.
-#[derive(Clone, Copy, Debug, PartialEq, Eq)]
+#[derive(Clone, Copy)]
 pub enum ImmediateOp {
     Addi,
     Slti,
@@ -29,7 +29,7 @@ pub enum ImmediateOp {
 }
 
 /// The shifts by an immediate.
-#[derive(Clone, Copy, Debug, PartialEq, Eq)]
+#[derive(Clone, Copy)]
 pub enum ShiftOp {
     Slli,
     Srli,
@@ -37,7 +37,7 @@ pub enum ShiftOp {
 }
 
 /// The loads.
-#[derive(Clone, Copy, Debug, PartialEq, Eq)]
+#[derive(Clone, Copy)]
 pub enum LoadOp {
     Lb,
     Lh,
@@ -47,7 +47,7 @@ pub enum LoadOp {
 }
 
 /// The stores.
-#[derive(Clone, Copy, Debug, PartialEq, Eq)]
+#[derive(Clone, Copy)]
 pub enum StoreOp {
     Sb,
     Sh,
@@ -55,7 +55,7 @@ pub enum StoreOp {
 }
 
 /// The branches.
-#[derive(Clone, Copy, Debug, PartialEq, Eq)]
+#[derive(Clone, Copy)]
 pub enum BranchOp {
     Beq,
     Bne,
@@ -66,14 +66,14 @@ pub enum BranchOp {
 }
 
 /// The instructions of an upper immediate.
-#[derive(Clone, Copy, Debug, PartialEq, Eq)]
+#[derive(Clone, Copy)]
 pub enum UpperOp {
     Lui,
     Auipc,
 }
 
 /// What has no operands.
-#[derive(Clone, Copy, Debug, PartialEq, Eq)]
+#[derive(Clone, Copy)]
 pub enum PlainOp {
     Fence,
     Ecall,
@@ -83,7 +83,7 @@ pub enum PlainOp {
 }
 
 /// What the first word of a statement asks for.
-#[derive(Clone, Copy, Debug, PartialEq, Eq)]
+#[derive(Clone, Copy)]
 pub enum Keyword {
     Register(RegisterOp),
     Immediate(ImmediateOp),

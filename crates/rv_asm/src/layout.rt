@@ -11,14 +11,14 @@ use std::alloc::Global;
 use std::collections::HashMap;
 
 /// Where a statement stands: its address, and whether a `.bss` stands before it.
-#[derive(Clone, Copy, Debug, PartialEq, Eq)]
+#[derive(Clone, Copy)]
 pub struct Place {
     pub address: u32,
     pub closed: bool,
 }
 
 /// Where a label is defined: its line, counted from 1, and the address that it names.
-#[derive(Clone, Copy, Debug, PartialEq, Eq)]
+#[derive(Clone, Copy)]
 pub struct Definition {
     pub line: u32,
     pub address: u32,

@@ -7,7 +7,7 @@ ghost use Rattle.rv_asm.specs.Cuts.{pieces_of};
 use crate::fault::FaultKind;
 
 /// Where a byte of a line stands: outside quotes, inside them, or inside them behind a backslash.
-#[derive(Clone, Copy, Debug, PartialEq, Eq)]
+#[derive(Clone, Copy)]
 pub enum Quote {
     Outside,
     Inside,

@@ -17,6 +17,3 @@ mod statement;
 
 pub use assembler::assemble;
 pub use fault::{AsmError, Fault, FaultKind};
-
-#[cfg(test)]
-mod tests;

@@ -14,7 +14,7 @@ use call_table::{Bytes, NoMemory};
 use std::alloc::Global;
 
 /// What stands on a line behind its label.
-#[derive(Debug, Drop)]
+#[derive(Drop)]
 pub enum Body {
     Empty,
     /// The first word is no keyword.
@@ -24,7 +24,7 @@ pub enum Body {
 }
 
 /// A line of the text.
-#[derive(Debug, Drop)]
+#[derive(Drop)]
 pub struct Line {
     pub label: Option<Bytes>,
     pub body: Body,

@@ -16,7 +16,7 @@ use rv_decode::{BranchOffset, FenceBits, Immediate, Instr, Register, Shift, Uppe
 use std::alloc::Global;
 
 /// A statement with its operands.
-#[derive(Debug, Drop)]
+#[derive(Drop)]
 pub enum Statement {
     /// An instruction without a label.
     Instruction(Instr),

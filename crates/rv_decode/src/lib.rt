@@ -12,6 +12,3 @@ pub use encoder::encode;
 pub use instruction::Instr;
 pub use signed::{BranchOffset, Immediate, JumpOffset};
 pub use unsigned::{FenceBits, Register, Shift, Upper};
-
-#[cfg(test)]
-mod tests;

@@ -1,5 +1,6 @@
 -- What is done at a signal.
 use Rattle.std.specs.Prelude.{ℕ, Bool, true, false, ◌==◌}
+use Rattle.call_table.specs.declared.signal.TheConstants.{SIGCHLD}
 use Rattle.call_table.specs.declared.request.Taken.{Taken}
 use Rattle.call_table.specs.declared.request.Taken.TheVariants.{Dies, Enters}
 use Rattle.signal_set.specs.declared.act.Act.{Act}
@@ -7,7 +8,7 @@ use Rattle.signal_set.specs.declared.act.Act.TheVariants.{Default, Ignore, Handl
 
 -- whether a signal does nothing at a process that has this action for it: by default only 17
 abbrev pub ignores : Act → ℕ → Bool
-ignores Default signal = signal == 17
+ignores Default signal = signal == SIGCHLD
 ignores Ignore signal = true
 ignores (Handler entry restorer) signal = false
 

@@ -3,6 +3,7 @@ use Rattle.std.specs.Prelude.{◌≡◌, ℕ, ◌+◌, ◌/◌, ◌%◌, ◌^◌
 use Rattle.std.specs.List.{find}
 use Rattle.std.specs.Option.{option_map}
 use Rattle.call_table.specs.Calls.{signals}
+use Rattle.call_table.specs.declared.signal.TheConstants.{SIGINT, SIGILL, SIGTRAP, SIGUSR1, SIGSEGV, SIGUSR2, SIGPIPE, SIGTERM, SIGCHLD, SIGXCPU}
 use Rattle.call_table.specs.declared.request.Taken.{Taken}
 use Rattle.signal_set.specs.declared.act.Act.{Act}
 use Rattle.signal_set.specs.declared.act.Act.TheVariants.{Default, Handler}
@@ -16,7 +17,7 @@ pub record SignalState : Type 0 where
 
 -- the bits of the signals that a mask can hold: all but 9
 abbrev pub maskable : ℕ
-maskable = 2 ^ 2 + 2 ^ 4 + 2 ^ 5 + 2 ^ 10 + 2 ^ 11 + 2 ^ 12 + 2 ^ 13 + 2 ^ 15 + 2 ^ 17 + 2 ^ 24
+maskable = 2 ^ SIGINT + 2 ^ SIGILL + 2 ^ SIGTRAP + 2 ^ SIGUSR1 + 2 ^ SIGSEGV + 2 ^ SIGUSR2 + 2 ^ SIGPIPE + 2 ^ SIGTERM + 2 ^ SIGCHLD + 2 ^ SIGXCPU
 
 -- a word as a mask keeps it: other bits are dropped
 abbrev pub kept_bits : ℕ → ℕ

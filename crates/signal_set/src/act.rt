@@ -3,6 +3,7 @@ ghost use Rattle.std.specs.Prelude.{◌≡◌};
 ghost use Rattle.signal_set.specs.Acts.{ignores, taken_by};
 
 use call_table::Taken;
+use call_table::signal::SIGCHLD;
 
 /// What a process does at a signal. By default it dies of it, save that 17 is ignored.
 #[derive(Clone, Copy, Debug, PartialEq, Eq)]
@@ -17,7 +18,7 @@ pub fn is_ignored(act: Act, signal: u8) -> bool
     ensures { result ≡ ignores act signal }
 {
     match act {
-        Act::Default => signal == 17,
+        Act::Default => signal == SIGCHLD,
         Act::Ignore => true,
         Act::Handler { .. } => false,
     }

@@ -5,10 +5,15 @@ ghost use Rattle.signal_set.specs.Signals.{no_signals, child_signals, act_of, is
 
 use crate::act::{Act, is_ignored, taken_by};
 use call_table::Taken;
+use call_table::signal::{
+    SIGCHLD, SIGILL, SIGINT, SIGKILL, SIGPIPE, SIGSEGV, SIGTERM, SIGTRAP, SIGUSR1, SIGUSR2, SIGXCPU,
+};
 use std::marker::Model;
 
 /// The signals that there are, lowest first, with the numbers that Linux gives them.
-const SIGNALS: [u8; 11] = [2, 4, 5, 9, 10, 11, 12, 13, 15, 17, 24];
+const SIGNALS: [u8; 11] = [
+    SIGINT, SIGILL, SIGTRAP, SIGKILL, SIGUSR1, SIGSEGV, SIGUSR2, SIGPIPE, SIGTERM, SIGCHLD, SIGXCPU,
+];
 
 /// The bits of the signals that a mask can hold: all but 9.
 const MASKABLE: u32 = 0x0102_BC34;
@@ -79,7 +84,7 @@ impl Signals {
     pub fn deliverable(&self) -> Option<u8>
         ensures lowest { result ≡ lowest_deliverable self.now }
         ensures heeded { IfSome result (λ s. ignores (act_of self.now s) s ≡ false) }
-        ensures kill { is_pending self.now 9 ≡ true → IsSome result }
+        ensures kill { is_pending self.now SIGKILL ≡ true → IsSome result }
         ensures within { IfSome result (λ s. s < 32) }
     {
         let _opened = &self.mask;

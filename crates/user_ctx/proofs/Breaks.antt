@@ -3,6 +3,7 @@ use Rattle.std.proofs.Common.{◌≡◌, ◌≢◌, ◌⊎◌, inl, inr, ℕ, ze
 use Rattle.std.proofs.lemmas.Bool.Decides.{nat_tests}
 use Rattle.std.specs.Prelude.{slice_index, ◌==◌}
 use Rattle.std.specs.FinMap as map
+use Rattle.call_table.specs.declared.limit.TheConstants.{PAGES}
 use Rattle.page_set.specs.Pages.{PageMap}
 use Rattle.user_spec.specs.User.{UserState}
 use Rattle.user_spec.specs.Request.{page_above, without_pages, pages_with_break, is_break, break_maps, lacks_page, with_break}
@@ -10,12 +11,12 @@ use Rattle.user_ctx.specs.Heap.{mapped_in, mapped_for}
 use Rattle.user_ctx.proofs.Heaps.{break_len, len_at_least, lacks_tells, broken_same, lacking_all}
 
 abbrev tests : ℕ → ℕ → ℕ → Bool
-tests base a n = not (a == 0) && (nat_le base a && (nat_le a 0x70000000 && nat_le n 1024))
+tests base a n = not (a == 0) && (nat_le base a && (nat_le a 0x70000000 && nat_le n PAGES))
 
-tests_yes : (base a n : ℕ) → a ≢ 0 → base ≤ a → a ≤ 0x70000000 → n ≤ 1024 → tests base a n ≡ true
+tests_yes : (base a n : ℕ) → a ≢ 0 → base ≤ a → a ≤ 0x70000000 → n ≤ PAGES → tests base a n ≡ true
 tests_yes base a n h i j k = grind (arith, nat_tests)
 
-tests_many : (base a n : ℕ) → 1024 < n → tests base a n ≡ false
+tests_many : (base a n : ℕ) → PAGES < n → tests base a n ≡ false
 tests_many base a n h = grind (arith, nat_tests)
 
 tests_tell : (base a n : ℕ) → tests base a n ≡ true → (base ≤ a) × (a ≤ 0x70000000)
@@ -47,16 +48,16 @@ len_is u a end lacking gone count c =
     let l : map.len (pages_with_break u.pages u.base a) + mapped_in u.pages end (0x70000 - end) + mapped_in u.pages (u.base / 4096) (end - u.base / 4096) ≡ map.len u.pages + (end - u.base / 4096) = break_len u.pages u.base a (u.base / 4096) end refl c.end_is low high in
     omega (arith, l)
 
-pub too_many : (u v : UserState) → u ≡ v → (a end lacking gone count : ℕ) → IsCounted u a end lacking gone count → 1024 < count - gone + lacking → is_break v a ≡ false
+pub too_many : (u v : UserState) → u ≡ v → (a end lacking gone count : ℕ) → IsCounted u a end lacking gone count → PAGES < count - gone + lacking → is_break v a ≡ false
 too_many u v is a end lacking gone count c n = ap (λ x. is_break x a) (sym is) ∙ tests_many u.base a (map.len (pages_with_break u.pages u.base a)) (omega (arith, len_is u a end lacking gone count c))
 
-pub too_wide : (u v : UserState) → u ≡ v → (a end : ℕ) → end ≡ page_above a → 1024 < end - u.base / 4096 → is_break v a ≡ false
+pub too_wide : (u v : UserState) → u ≡ v → (a end : ℕ) → end ≡ page_above a → PAGES < end - u.base / 4096 → is_break v a ≡ false
 too_wide u v is a end e n =
     let w : PageMap = without_pages u.pages (page_above a) (0x70000 - page_above a) in
     let l : page_above a - u.base / 4096 ≤ map.len (pages_with_break u.pages u.base a) = len_at_least (page_above a - u.base / 4096) w (u.base / 4096) in
     ap (λ x. is_break x a) (sym is) ∙ tests_many u.base a (map.len (pages_with_break u.pages u.base a)) (omega (arith, l))
 
-not_too_many : (u : UserState) (a end lacking gone count : ℕ) → IsCounted u a end lacking gone count → a ≢ 0 → count - gone + lacking ≤ 1024 → is_break u a ≡ true
+not_too_many : (u : UserState) (a end lacking gone count : ℕ) → IsCounted u a end lacking gone count → a ≢ 0 → count - gone + lacking ≤ PAGES → is_break u a ≡ true
 not_too_many u a end lacking gone count c z n = tests_yes u.base a (map.len (pages_with_break u.pages u.base a)) z c.low c.high (omega (arith, len_is u a end lacking gone count c))
 
 lacks_none : (b : Bool) (k n lacking : ℕ) → ((b ≡ true) × (k < n)) ⊎ ((b ≡ false) × (k ≡ n)) → lacking + k ≡ n → lacking ≡ 0 → b ≡ false
@@ -70,12 +71,12 @@ lacks_some b k n lacking (inr h) s e = absurd (e (omega arith))
 maps_is : (u : UserState) (a end : ℕ) (b : Bool) → end ≡ page_above a → is_break u a ≡ true → lacks_page u.pages (u.base / 4096) (end - u.base / 4096) ≡ b → break_maps u a ≡ b
 maps_is u a end b e h l = ap (λ x. x && lacks_page u.pages (u.base / 4096) (page_above a - u.base / 4096)) h ∙ ap (λ x. lacks_page u.pages (u.base / 4096) (x - u.base / 4096)) (sym e) ∙ l
 
-pub fits : (u v : UserState) → u ≡ v → (a end lacking gone count : ℕ) → IsCounted u a end lacking gone count → a ≢ 0 → count - gone + lacking ≤ 1024 → lacking ≡ 0 → (is_break v a ≡ true) × (break_maps v a ≡ false)
+pub fits : (u v : UserState) → u ≡ v → (a end lacking gone count : ℕ) → IsCounted u a end lacking gone count → a ≢ 0 → count - gone + lacking ≤ PAGES → lacking ≡ 0 → (is_break v a ≡ true) × (break_maps v a ≡ false)
 fits u v is a end lacking gone count c z n e =
     let b : is_break u a ≡ true = not_too_many u a end lacking gone count c z n in
     (ap (λ x. is_break x a) (sym is) ∙ b, ap (λ x. break_maps x a) (sym is) ∙ maps_is u a end false c.end_is b (lacks_none _ _ _ lacking (lacks_tells (end - u.base / 4096) u.pages (u.base / 4096)) c.lacking_is e))
 
-pub maps : (u v : UserState) → u ≡ v → (a end lacking gone count : ℕ) → IsCounted u a end lacking gone count → a ≢ 0 → count - gone + lacking ≤ 1024 → lacking ≢ 0 → (is_break v a ≡ true) × (break_maps v a ≡ true)
+pub maps : (u v : UserState) → u ≡ v → (a end lacking gone count : ℕ) → IsCounted u a end lacking gone count → a ≢ 0 → count - gone + lacking ≤ PAGES → lacking ≢ 0 → (is_break v a ≡ true) × (break_maps v a ≡ true)
 maps u v is a end lacking gone count c z n e =
     let b : is_break u a ≡ true = not_too_many u a end lacking gone count c z n in
     (ap (λ x. is_break x a) (sym is) ∙ b, ap (λ x. break_maps x a) (sym is) ∙ maps_is u a end true c.end_is b (lacks_some _ _ _ lacking (lacks_tells (end - u.base / 4096) u.pages (u.base / 4096)) c.lacking_is e))

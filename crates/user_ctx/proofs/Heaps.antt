@@ -10,7 +10,8 @@ use Rattle.page_set.specs.Pages.{Page, PageMap, plain_byte, zero_page, changed_p
 use Rattle.user_spec.specs.User.{UserState}
 use Rattle.user_spec.specs.Request.{page_above, without_pages, with_heap_page, with_heap_pages, lacks_page, pages_with_break, is_break}
 use Rattle.user_ctx.specs.Heap.{one_if_mapped, mapped_in, with_zeros, with_lacking, broken}
-use Rattle.user_ctx.proofs.Maps.{same, get_removed, get_removed_other, get_inserted_other, heap_page, page_or_zeros, heap_page_is, heap_other, without_in, without_out, without_more, heap_in, heap_out, heap_more, lacking_in, lacking_out, there, all_there}
+use Rattle.page_set.proofs.Maps.{get_removed, get_removed_other, get_inserted_other}
+use Rattle.user_ctx.proofs.Maps.{lt_or_le, same, heap_page, page_or_zeros, heap_page_is, heap_other, without_in, without_out, without_more, heap_in, heap_out, heap_more, lacking_in, lacking_out, there, all_there}
 
 -- ---- how many of a range are mapped
 
@@ -189,9 +190,6 @@ lacking_all m first n = all_there n (with_lacking m first n) first (λ q low hig
 heap_zeros : (o : Option Page) → heap_page (Some (page_or_zeros o)) ≡ heap_page o
 heap_zeros None = refl
 heap_zeros (Some p) = refl
-
-pub lt_or_le : (q n : ℕ) → (q < n) ⊎ (n ≤ q)
-lt_or_le q n = grind arith
 
 pub broken_below : (m : PageMap) (first end q : ℕ) → first ≤ end → q < first → map.get (broken m first end) q ≡ map.get m q
 broken_below m first end q le lt = heap_out (end - first) (without_pages m end (0x70000 - end)) first q (inl lt) ∙ without_out (0x70000 - end) m end q (inl (omega arith))

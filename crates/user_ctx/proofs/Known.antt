@@ -10,8 +10,8 @@ use Rattle.page_set.specs.Pages.{Page, PageMap, zero_page}
 use Rattle.user_spec.specs.User.{UserState}
 use Rattle.user_spec.specs.Request.{page_above, without_pages, with_heap_pages, lacks_page, pages_with_break}
 use Rattle.user_ctx.specs.Heap.{mapped_in, with_lacking, broken, rights_at, is_heap_page, IsHeap}
-use Rattle.user_ctx.proofs.Maps.{same, heap_page, page_or_zeros, heap_in, heap_out, without_in, without_out, lacking_in, lacking_out, there, all_there}
-use Rattle.user_ctx.proofs.Heaps.{mapped_split, mapped_full, mapped_free, broken_below, broken_in, broken_above, broken_far, lt_or_le}
+use Rattle.user_ctx.proofs.Maps.{lt_or_le, same, heap_page, page_or_zeros, heap_in, heap_out, without_in, without_out, lacking_in, lacking_out, there, all_there}
+use Rattle.user_ctx.proofs.Heaps.{mapped_split, mapped_full, mapped_free, broken_below, broken_in, broken_above, broken_far}
 use Rattle.user_ctx.proofs.Breaks.{IsCounted}
 
 -- ---- one page

@@ -3,6 +3,7 @@ pub mod Running
 pub mod Maps
 pub mod Heaps
 pub mod Walks
+pub mod Single
 pub mod Calls
 pub mod Breaks
 pub mod Frames

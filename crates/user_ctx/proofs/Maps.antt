@@ -5,26 +5,16 @@ use Rattle.std.specs.Ordering.{nat_cmp}
 use Rattle.std.specs.Cmp.{nat_cmp_total}
 use Rattle.std.specs.FinMap as map
 use Rattle.std.proofs.lemmas.Bool.Decides.{nat_tests, eqb_tells}
+use Rattle.page_set.proofs.Maps.{get_inserted, get_inserted_other, get_removed, get_removed_other}
 use Rattle.page_set.specs.Pages.{Page, PageMap, zero_page, page_with_rights, changed_page, plain_byte}
 use Rattle.user_spec.specs.Request.{without_pages, with_heap_page, with_heap_pages, lacks_page}
 use Rattle.user_ctx.specs.Heap.{one_if_mapped, mapped_in, with_zeros, with_lacking}
 
--- ---- the key of an insertion or a removal, and the other keys
-
-pub get_inserted : (m : PageMap) (k : ℕ) (p : Page) → map.get (map.insert m k p) k ≡ Some p
-get_inserted m k p = map.get-insert nat_cmp_total m k p k ∙ grind (arith, nat_tests)
-
-pub get_inserted_other : (m : PageMap) (k q : ℕ) (p : Page) → q ≢ k → map.get (map.insert m k p) q ≡ map.get m q
-get_inserted_other m k q p h = map.get-insert nat_cmp_total m k p q ∙ grind (arith, nat_tests)
-
-pub get_removed : (m : PageMap) (k : ℕ) → map.get (map.remove m k) k ≡ None
-get_removed m k = map.get-remove nat_cmp_total m k k ∙ grind (arith, nat_tests)
-
-pub get_removed_other : (m : PageMap) (k q : ℕ) → q ≢ k → map.get (map.remove m k) q ≡ map.get m q
-get_removed_other m k q h = map.get-remove nat_cmp_total m k q ∙ grind (arith, nat_tests)
-
 pub same : (a b : PageMap) → ((q : ℕ) → map.get a q ≡ map.get b q) → a ≡ b
 same a b h = map.same_map nat_cmp_total map.nat_cmp-IsAntisymmetric a b h
+
+pub lt_or_le : (q n : ℕ) → (q < n) ⊎ (n ≤ q)
+lt_or_le q n = grind arith
 
 -- ---- a range without pages
 

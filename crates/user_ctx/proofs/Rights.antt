@@ -6,13 +6,16 @@ use Rattle.std.specs.FinMap as map
 use Rattle.page_set.specs.Pages.{Page, PageMap, page_with_byte, changed_page, with_byte, with_bytes, where_granted, bytes_at, bytes_1, bytes_2, bytes_4, stored}
 use Rattle.user_spec.specs.Words.{sum_of}
 use Rattle.user_spec.specs.Request.{with_words}
-use Rattle.user_spec.specs.Instruction.{Core, Ran, RanTo, RanAtCall, RanFaults, one_instruction, next_effect, applied, with_loaded, with_stored, load_as, store_as, on_ran, ran}
+use Rattle.user_spec.specs.Instruction.{Core, Ran, one_instruction, next_effect, applied, with_loaded, with_stored, load_as, store_as, on_outcome, ran}
+use Rattle.user_spec.specs.declared.outcome.Outcome.{Outcome}
+use Rattle.user_spec.specs.declared.outcome.Outcome.TheVariants.{Done, Call, Fault}
 use Rattle.user_spec.specs.declared.effect.Effect.{Effect}
 use Rattle.user_spec.specs.declared.effect.Effect.TheVariants.{Sets, Loads, Stores, Calls, Raises}
 use Rattle.user_spec.specs.declared.effect.Width.{Width}
 use Rattle.user_spec.specs.declared.effect.Width.TheVariants.{One, Two, Four}
 use Rattle.user_ctx.specs.Heap.{rights_at, is_heap_page, IsHeap}
-use Rattle.user_ctx.proofs.Maps.{get_inserted, get_inserted_other}
+use Rattle.user_ctx.proofs.Maps.{lt_or_le}
+use Rattle.page_set.proofs.Maps.{get_inserted, get_inserted_other}
 
 -- each page has the same rights, or is mapped as little
 pub record Keeps (old new : PageMap) : Type 0 where
@@ -69,43 +72,34 @@ keeps_stored m new addr bs e = keeps_granted (bytes_at m 2 addr (length bs)) m (
 
 -- ---- instructions
 
-to_to : (c d : Core) → RanTo c ≡ RanTo d → c.pages ≡ d.pages
-to_to c d e = let f : c ≡ d = cc in ap (λ (x : Core). x.pages) f
+keeps_loaded : (rd : ℕ) (r : Result ℕ ℕ) (c : Core) → Keeps c.pages (with_loaded rd r c).core.pages
+keeps_loaded rd (Ok value) c = keeps_same c.pages c.pages refl
+keeps_loaded rd (Err addr) c = keeps_same c.pages c.pages refl
 
-call_to : (d : Core) → RanAtCall ≡ RanTo d → ⊥
-call_to d e = cc
-
-fault_to : (s : ℕ) (d : Core) → RanFaults s ≡ RanTo d → ⊥
-fault_to s d e = cc
-
-keeps_loaded : (rd : ℕ) (r : Result ℕ ℕ) (c d : Core) → with_loaded rd r c ≡ RanTo d → Keeps c.pages d.pages
-keeps_loaded rd (Ok value) c d e = keeps_same c.pages d.pages (to_to _ d e)
-keeps_loaded rd (Err addr) c d e = absurd (fault_to 11 d e)
-
-keeps_store : (r : Result PageMap ℕ) (c d : Core) → ((new : PageMap) → r ≡ Ok new → Keeps c.pages new) → with_stored r c ≡ RanTo d → Keeps c.pages d.pages
-keeps_store (Ok new) c d h e = keeps_two c.pages new d.pages (h new refl) (keeps_same new d.pages (to_to _ d e))
-keeps_store (Err addr) c d h e = absurd (fault_to 11 d e)
+keeps_store : (r : Result PageMap ℕ) (c : Core) → ((new : PageMap) → r ≡ Ok new → Keeps c.pages new) → Keeps c.pages (with_stored r c).core.pages
+keeps_store (Ok new) c h = h new refl
+keeps_store (Err addr) c h = keeps_same c.pages c.pages refl
 
 keeps_width : (width : Width) (m new : PageMap) (addr value : ℕ) → store_as width m addr value ≡ Ok new → Keeps m new
 keeps_width One m new addr value e = keeps_stored m new addr (bytes_1 value) e
 keeps_width Two m new addr value e = keeps_stored m new addr (bytes_2 value) e
 keeps_width Four m new addr value e = keeps_stored m new addr (bytes_4 value) e
 
-keeps_applied : (e : Effect) (c d : Core) → applied e c ≡ RanTo d → Keeps c.pages d.pages
-keeps_applied (Sets rd value next) c d h = keeps_same c.pages d.pages (to_to _ d h)
-keeps_applied (Loads rd addr form) c d h = keeps_loaded rd (load_as form c.pages addr) c d h
-keeps_applied (Stores addr value width) c d h = keeps_store (store_as width c.pages addr value) c d (λ new e. keeps_width width c.pages new addr value e) h
-keeps_applied Calls c d h = absurd (call_to d h)
-keeps_applied (Raises signal) c d h = absurd (fault_to signal d h)
+keeps_applied : (e : Effect) (c : Core) → Keeps c.pages (applied e c).core.pages
+keeps_applied (Sets rd value next) c = keeps_same c.pages c.pages refl
+keeps_applied (Loads rd addr form) c = keeps_loaded rd (load_as form c.pages addr) c
+keeps_applied (Stores addr value width) c = keeps_store (store_as width c.pages addr value) c (λ new e. keeps_width width c.pages new addr value e)
+keeps_applied Calls c = keeps_same c.pages c.pages refl
+keeps_applied (Raises signal) c = keeps_same c.pages c.pages refl
 
-keeps_ran_on : (r : Ran) (k : ℕ) (c d : Core) → one_instruction c ≡ r → ((x : Core) → ran k x ≡ Some d → Keeps x.pages d.pages) → on_ran r (ran k) ≡ Some d → Keeps c.pages d.pages
-keeps_ran_on (RanTo x) k c d e ih h = keeps_two c.pages x.pages d.pages (keeps_applied (next_effect c.pc (0 ∷ c.registers) c.pages) c x e) (ih x h)
-keeps_ran_on RanAtCall k c d e ih h = absurd (none-some d h)
-keeps_ran_on (RanFaults signal) k c d e ih h = absurd (none-some d h)
+keeps_on : (o : Outcome) (x : Core) (k : ℕ) (c d : Core) → Keeps c.pages x.pages → ((x : Core) → ran k x ≡ Some d → Keeps x.pages d.pages) → on_outcome o x (ran k) ≡ Some d → Keeps c.pages d.pages
+keeps_on Done x k c d one ih h = keeps_two c.pages x.pages d.pages one (ih x h)
+keeps_on Call x k c d one ih h = absurd (none-some d h)
+keeps_on (Fault signal) x k c d one ih h = absurd (none-some d h)
 
 keeps_ran : (k : ℕ) (c d : Core) → ran k c ≡ Some d → Keeps c.pages d.pages
 keeps_ran zero c d h = keeps_same c.pages d.pages (ap (λ (x : Core). x.pages) (same_Some c d h))
-keeps_ran (suc k) c d h = keeps_ran_on (one_instruction c) k c d refl (λ x. keeps_ran k x d) h
+keeps_ran (suc k) c d h = keeps_on (one_instruction c).outcome (one_instruction c).core k c d (keeps_applied (next_effect c.pc (0 ∷ c.registers) c.pages) c) (λ x. keeps_ran k x d) h
 
 -- ---- what is known of the heap
 
@@ -141,9 +135,6 @@ heap_new base pages al le = record {
   mapped = λ q low high. absurd (omega arith);
   free = λ q low high. absurd (omega arith);
 }
-
-lt_or_le : (q n : ℕ) → (q < n) ⊎ (n ≤ q)
-lt_or_le q n = grind arith
 
 pub lower_bare : (base brk full bare less : ℕ) (pages : PageMap) → IsHeap base brk full bare pages → less ≤ bare → ((q : ℕ) → less ≤ q → q < bare → rights_at pages q ≡ None) → IsHeap base brk full less pages
 lower_bare base brk full bare less pages h le f = record {

@@ -8,7 +8,7 @@ use Rattle.user_spec.specs.declared.effect.Width.{Width}
 use Rattle.user_spec.specs.declared.effect.Width.TheVariants.{One, Two, Four}
 use Rattle.user_spec.specs.Instruction.{store_as}
 use Rattle.user_ctx.specs.Decoded.{word_of}
-use Rattle.user_ctx.proofs.Maps.{get_inserted, get_inserted_other}
+use Rattle.page_set.proofs.Maps.{get_inserted, get_inserted_other}
 
 -- another byte of the page
 offset_other : (page : Page) (right at b offset : ℕ) → offset ≢ at → byte_of right offset (Some (page_with_byte at b page)) ≡ byte_of right offset (Some page)

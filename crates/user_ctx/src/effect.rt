@@ -4,6 +4,7 @@ ghost use Rattle.user_spec.specs.User.{with_register};
 ghost use Rattle.user_spec.specs.Words.{is_below, one_if, shifted_left, shifted_right, shifted_signed};
 ghost use Rattle.user_spec.specs.Instruction.{value_of, jump, branch, sets, effect_of};
 
+use call_table::signal::{SIGSEGV, SIGTRAP};
 use rv_decode::{Instr, Register};
 use user_spec::effect::{Effect, Form, Width};
 
@@ -45,7 +46,7 @@ fn jump(rd: Register, value: u32, target: u32) -> Effect
             next: target,
         }
     } else {
-        Effect::Raises(11)
+        Effect::Raises(SIGSEGV)
     }
 }
 
@@ -196,6 +197,6 @@ pub fn effect(instr: Instr, pc: u32, x: &[u32; 32]) -> Effect
         Instr::And(rd, a, b) => sets(rd, register(x, a) & register(x, b), pc),
         Instr::Fence(_) => sets(zero(), 0, pc),
         Instr::Ecall => Effect::Calls,
-        Instr::Ebreak => Effect::Raises(5),
+        Instr::Ebreak => Effect::Raises(SIGTRAP),
     }
 }

@@ -4,7 +4,7 @@ ghost use Rattle.std.specs.Result.{result_unwrap_or};
 ghost use Rattle.page_set.specs.Pages.{flat_at, with_bytes, bytes_4};
 ghost use Rattle.user_spec.specs.Request.{frame_at, has_frame_room, frame_word, frame_registers, with_words};
 
-use call_table::{Bytes, NoMemory};
+use call_table::{Bytes, FRAME_SIZE, NoMemory, RIGHT_READ, RIGHT_WRITE};
 use page_set::Pages;
 use std::alloc::Global;
 
@@ -32,14 +32,14 @@ pub fn read_bytes(alloc: Global, pages: &Pages, addr: u32, len: u32) -> Result<B
 pub fn frame_at(sp: u32) -> u32
     ensures { result ≡ frame_at sp }
 {
-    sp.wrapping_sub(132) / 16 * 16
+    sp.wrapping_sub(FRAME_SIZE) / 16 * 16
 }
 
 /// Whether there is room for a signal's frame below a stack pointer.
 pub fn has_room(pages: &Pages, sp: u32) -> bool
     ensures { result ≡ has_frame_room pages.now sp }
 {
-    covers(pages, frame_at(sp), 132, 2)
+    covers(pages, frame_at(sp), FRAME_SIZE, RIGHT_WRITE)
 }
 
 /// Word `i` of a frame, 0 where it cannot be read.
@@ -47,7 +47,7 @@ pub fn frame_word(pages: &Pages, at: u32, i: u32) -> u32
     requires { i ≤ 32 }
     ensures { result ≡ frame_word pages.now at i }
 {
-    match pages.load_4(at.wrapping_add(4 * i), 4) {
+    match pages.load_4(at.wrapping_add(4 * i), RIGHT_READ) {
         Ok(word) => word,
         Err(_) => 0,
     }

@@ -5,13 +5,12 @@ mod decoded;
 mod effect;
 mod frame;
 mod heap;
+mod plan;
 mod step;
 mod steps;
-mod stop;
 #[cfg(test)]
 mod tests;
 mod user;
-mod word;
 
-pub use stop::Stop;
 pub use user::{User, Users};
+pub use user_spec::outcome::Stop;

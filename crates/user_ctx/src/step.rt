@@ -2,15 +2,17 @@
 ghost use Rattle.std.specs.Prelude.{ℕ, List, ◌≡◌, ◌∷◌, drop, MatchResult, IsSome, Ok, Err, OnErr};
 ghost use Rattle.user_spec.specs.Words.{sign_filled};
 ghost use Rattle.user_spec.specs.Instruction.{next_effect, load_as, store_as, one_instruction};
-ghost use Rattle.user_ctx.specs.Stopping.{core, ran_of, OrStays};
+ghost use Rattle.user_ctx.specs.Stopping.{core};
 ghost use Rattle.user_ctx.specs.Decoded.{IsKnown, known_at};
 
 use crate::decoded::DecodedWords;
 use crate::effect::{effect, set_register};
-use crate::stop::Outcome;
+use call_table::signal::{SIGILL, SIGSEGV};
+use call_table::{RIGHT_READ, RIGHT_RUN};
 use page_set::{Pages, Refused};
 use rv_decode::decode;
 use user_spec::effect::{Effect, Form, Width};
+use user_spec::outcome::Outcome;
 
 #[inline(always)]
 fn sign_byte(byte: u8) -> u32
@@ -33,23 +35,11 @@ fn load(pages: &Pages, addr: u32, form: Form) -> Result<u32, Refused>
     ensures { MatchResult result (λ w. load_as form pages.now addr ≡ Ok w) (λ e. load_as form pages.now addr ≡ Err e.addr) }
 {
     match form {
-        Form::SignedByte => match pages.load_1(addr, 4) {
-            Ok(b) => Ok(sign_byte(b)),
-            Err(e) => Err(e),
-        },
-        Form::SignedHalf => match pages.load_2(addr, 4) {
-            Ok(b) => Ok(sign_half(b)),
-            Err(e) => Err(e),
-        },
-        Form::Word => pages.load_4(addr, 4),
-        Form::Byte => match pages.load_1(addr, 4) {
-            Ok(b) => Ok(b as u32),
-            Err(e) => Err(e),
-        },
-        Form::Half => match pages.load_2(addr, 4) {
-            Ok(b) => Ok(b as u32),
-            Err(e) => Err(e),
-        },
+        Form::SignedByte => Ok(sign_byte(pages.load_1(addr, RIGHT_READ)?)),
+        Form::SignedHalf => Ok(sign_half(pages.load_2(addr, RIGHT_READ)?)),
+        Form::Word => pages.load_4(addr, RIGHT_READ),
+        Form::Byte => Ok(pages.load_1(addr, RIGHT_READ)? as u32),
+        Form::Half => Ok(pages.load_2(addr, RIGHT_READ)? as u32),
     }
 }
 
@@ -59,18 +49,9 @@ fn store(pages: &mut Pages, addr: u32, value: u32, width: Width) -> Result<(), R
     ensures err { OnErr result (pages.new ≡ pages.old) }
 {
     match width {
-        Width::One => match pages.store_1(addr, value) {
-            Ok(()) => Ok(()),
-            Err(e) => Err(e),
-        },
-        Width::Two => match pages.store_2(addr, value) {
-            Ok(()) => Ok(()),
-            Err(e) => Err(e),
-        },
-        Width::Four => match pages.store_4(addr, value) {
-            Ok(()) => Ok(()),
-            Err(e) => Err(e),
-        },
+        Width::One => pages.store_1(addr, value),
+        Width::Two => pages.store_2(addr, value),
+        Width::Four => pages.store_4(addr, value),
     }
 }
 
@@ -80,15 +61,15 @@ pub fn next(pc: u32, x: &[u32; 32], pages: &Pages) -> Effect
     ensures { result ≡ next_effect pc x.now pages.now }
 {
     if pc % 4 != 0 {
-        return Effect::Raises(11);
+        return Effect::Raises(SIGSEGV);
     }
-    let word = match pages.load_4(pc, 1) {
+    let word = match pages.load_4(pc, RIGHT_RUN) {
         Ok(word) => word,
-        Err(_) => return Effect::Raises(11),
+        Err(_) => return Effect::Raises(SIGSEGV),
     };
     match decode(word) {
         Some(instr) => effect(instr, pc, x),
-        None => Effect::Raises(4),
+        None => Effect::Raises(SIGILL),
     }
 }
 
@@ -97,8 +78,7 @@ pub fn next(pc: u32, x: &[u32; 32], pages: &Pages) -> Effect
 pub fn step(pc: &mut u32, x: &mut [u32; 32], pages: &mut Pages) -> Outcome
     requires { x.old ≡ 0 ∷ drop 1 x.old }
     ensures zero { x.new ≡ 0 ∷ drop 1 x.new }
-    ensures is { one_instruction (core pc.old x.old pages.old) ≡ ran_of result (core pc.new x.new pages.new) }
-    ensures stays { OrStays result (core pc.old x.old pages.old) (core pc.new x.new pages.new) }
+    ensures is { one_instruction (core pc.old x.old pages.old) ≡ record { outcome = result; core = core pc.new x.new pages.new } }
 {
     match next(*pc, x, pages) {
         Effect::Sets { rd, value, next } => {
@@ -112,14 +92,14 @@ pub fn step(pc: &mut u32, x: &mut [u32; 32], pages: &mut Pages) -> Outcome
                 *pc = (*pc).wrapping_add(4);
                 Outcome::Done
             }
-            Err(_) => Outcome::Fault(11),
+            Err(_) => Outcome::Fault(SIGSEGV),
         },
         Effect::Stores { addr, value, width } => match store(pages, addr, value, width) {
             Ok(()) => {
                 *pc = (*pc).wrapping_add(4);
                 Outcome::Done
             }
-            Err(_) => Outcome::Fault(11),
+            Err(_) => Outcome::Fault(SIGSEGV),
         },
         Effect::Calls => Outcome::Call,
         Effect::Raises(signal) => Outcome::Fault(signal),
@@ -135,18 +115,18 @@ fn learn(pc: u32, pages: &Pages, words: &mut DecodedWords) -> Result<(), u8>
     ensures known { IsKnown pages.now words.new.words }
 {
     if pc % 4 != 0 {
-        return Err(11);
+        return Err(SIGSEGV);
     }
-    let word = match pages.load_4(pc, 1) {
+    let word = match pages.load_4(pc, RIGHT_RUN) {
         Ok(word) => word,
-        Err(_) => return Err(11),
+        Err(_) => return Err(SIGSEGV),
     };
     match decode(word) {
         Some(instr) => {
             words.learn(pc, &instr);
             Ok(())
         }
-        None => Err(4),
+        None => Err(SIGILL),
     }
 }
 
@@ -159,7 +139,7 @@ fn next_known(pc: u32, x: &[u32; 32], pages: &Pages, words: &mut DecodedWords) -
     ensures known { IsKnown pages.now words.new.words }
 {
     if pc % 4 != 0 {
-        return Effect::Raises(11);
+        return Effect::Raises(SIGSEGV);
     }
     if !words.knows(pc) {
         match learn(pc, pages, words) {
@@ -182,8 +162,7 @@ pub fn step_known(
     requires zero { x.old ≡ 0 ∷ drop 1 x.old }
     requires known { IsKnown pages.old words.old.words }
     ensures zero { x.new ≡ 0 ∷ drop 1 x.new }
-    ensures is { one_instruction (core pc.old x.old pages.old) ≡ ran_of result (core pc.new x.new pages.new) }
-    ensures stays { OrStays result (core pc.old x.old pages.old) (core pc.new x.new pages.new) }
+    ensures is { one_instruction (core pc.old x.old pages.old) ≡ record { outcome = result; core = core pc.new x.new pages.new } }
     ensures known { IsKnown pages.new words.new.words }
 {
     match next_known(*pc, x, pages, words) {
@@ -198,7 +177,7 @@ pub fn step_known(
                 *pc = (*pc).wrapping_add(4);
                 Outcome::Done
             }
-            Err(_) => Outcome::Fault(11),
+            Err(_) => Outcome::Fault(SIGSEGV),
         },
         Effect::Stores { addr, value, width } => match store(pages, addr, value, width) {
             Ok(()) => {
@@ -206,7 +185,7 @@ pub fn step_known(
                 *pc = (*pc).wrapping_add(4);
                 Outcome::Done
             }
-            Err(_) => Outcome::Fault(11),
+            Err(_) => Outcome::Fault(SIGSEGV),
         },
         Effect::Calls => Outcome::Call,
         Effect::Raises(signal) => Outcome::Fault(signal),

@@ -1,12 +1,12 @@
 // Many instructions, one after another.
 ghost use Rattle.std.specs.Prelude.{◌≡◌, ◌≢◌, ◌≤◌, Some, ◌∷◌, ◌<◌, drop};
 ghost use Rattle.user_spec.specs.Instruction.{one_instruction, ran};
-ghost use Rattle.user_ctx.specs.Stopping.{core, ran_of};
+ghost use Rattle.user_ctx.specs.Stopping.{core};
 
 use crate::decoded::DecodedWords;
 use crate::step::{step, step_known};
-use crate::stop::Outcome;
 use page_set::Pages;
+use user_spec::outcome::Outcome;
 
 /// More instructions than this pay for a table of decoded words.
 const PLAIN_STEPS: u32 = 256;
@@ -20,7 +20,7 @@ fn run_plain(pc: &mut u32, x: &mut [u32; 32], pages: &mut Pages, n: u32) -> (u32
     ensures went { ran result.0 (core pc.old x.old pages.old) ≡ Some (core pc.new x.new pages.new) }
     ensures whole { result.1 ≡ Outcome.Done → result.0 ≡ n }
     ensures short { result.1 ≢ Outcome.Done → result.0 < n }
-    ensures stop { result.1 ≢ Outcome.Done → one_instruction (core pc.new x.new pages.new) ≡ ran_of result.1 (core pc.new x.new pages.new) }
+    ensures stop { result.1 ≢ Outcome.Done → one_instruction (core pc.new x.new pages.new) ≡ record { outcome = result.1; core = core pc.new x.new pages.new } }
 {
     let mut at = *pc;
     for i in 0..n {
@@ -46,7 +46,7 @@ fn run_known(pc: &mut u32, x: &mut [u32; 32], pages: &mut Pages, n: u32) -> (u32
     ensures went { ran result.0 (core pc.old x.old pages.old) ≡ Some (core pc.new x.new pages.new) }
     ensures whole { result.1 ≡ Outcome.Done → result.0 ≡ n }
     ensures short { result.1 ≢ Outcome.Done → result.0 < n }
-    ensures stop { result.1 ≢ Outcome.Done → one_instruction (core pc.new x.new pages.new) ≡ ran_of result.1 (core pc.new x.new pages.new) }
+    ensures stop { result.1 ≢ Outcome.Done → one_instruction (core pc.new x.new pages.new) ≡ record { outcome = result.1; core = core pc.new x.new pages.new } }
 {
     let mut words = DecodedWords::new();
     let mut at = *pc;
@@ -71,7 +71,7 @@ pub fn run(pc: &mut u32, x: &mut [u32; 32], pages: &mut Pages, n: u32) -> (u32, 
     ensures went { ran result.0 (core pc.old x.old pages.old) ≡ Some (core pc.new x.new pages.new) }
     ensures whole { result.1 ≡ Outcome.Done → result.0 ≡ n }
     ensures short { result.1 ≢ Outcome.Done → result.0 < n }
-    ensures stop { result.1 ≢ Outcome.Done → one_instruction (core pc.new x.new pages.new) ≡ ran_of result.1 (core pc.new x.new pages.new) }
+    ensures stop { result.1 ≢ Outcome.Done → one_instruction (core pc.new x.new pages.new) ≡ record { outcome = result.1; core = core pc.new x.new pages.new } }
 {
     let (went, outcome) = run_plain(pc, x, pages, n.min(PLAIN_STEPS));
     match outcome {

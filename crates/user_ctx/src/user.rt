@@ -4,37 +4,29 @@ ghost use Rattle.std.specs.FinMap as map;
 ghost use Rattle.page_set.specs.Pages.{with_bytes};
 ghost use Rattle.user_spec.specs.User.{UserState, need_of_user};
 ghost use Rattle.user_spec.specs.Request.{number_of, args_of, stack_pointer, frame_word, frame_registers, buffer_of, buffer_address, has_buffer, has_frame_room, handed_bytes, asked_args, returned_pointer, call_request, fault_request, returned, entered, forked, with_value, with_brk, with_break, is_break, break_maps};
-ghost use Rattle.user_spec.specs.Advance.{Walk, Done, advance, walked, grows, counted, request_of};
-ghost use Rattle.user_ctx.specs.Stopping.{StepsTo, StopsAt, Leads, EndsAs, limited, IsAtEcall};
+ghost use Rattle.user_spec.specs.Advance.{Walk, Done, advance, walked, grows, counted, stepped, request_of};
+ghost use Rattle.user_ctx.specs.Stopping.{StopsAt, Leads, EndsAs, limited, IsAtEcall};
 ghost use Rattle.user_ctx.specs.Calling.{IsPlan, IsLocal, signal_of, AsksBy};
 ghost use Rattle.user_ctx.specs.Heap.{mapped_for};
 
 use crate::heap::{self, HEAP_END};
-use crate::stop::{Outcome, Plan, Stop, WordKind};
-use crate::word::kind_of;
-use crate::{frame, steps};
+use crate::plan::Plan;
+use crate::{frame, step, steps};
 use call_table::call::{BRK, GETPID, SIGRETURN};
+use call_table::error::{EFAULT, ENOSYS};
+use call_table::limit::{PAGES, STEPS};
+use call_table::signal::{SIGSEGV, SIGXCPU};
 use call_table::{
     Answer, Bytes, Kind, ListOf, Need, NoMemory, RIGHT_READ, Request, is_local, need_of,
 };
 use page_set::Pages;
 use std::alloc::Global;
 use std::marker::Model;
-
-/// After so many steps a process ends.
-const MOST_STEPS: u32 = 0x400_0000;
+use user_spec::effect::Effect;
+use user_spec::outcome::{Outcome, Stop};
 
 /// A break is at most this address.
 const HEAP_LIMIT: u32 = 0x7000_0000;
-
-/// A process has at most so many pages.
-const MOST_PAGES: u64 = 1024;
-
-/// The error that no call has the number.
-const NO_SUCH_CALL: i32 = -38;
-
-/// The error that a buffer lacks its right.
-const BAD_ADDRESS: i32 = -14;
 
 /// User processes, as a list.
 pub type Users = ListOf<User>;
@@ -56,7 +48,8 @@ pub struct User {
 }
 
 impl Model for User {
-    ghost use Rattle.std.specs.Prelude.{◌≡◌, ◌∷◌, ◌≤◌, ◌^◌, drop};
+    ghost use Rattle.std.specs.Prelude.{◌≡◌, ◌∷◌, ◌≤◌, drop};
+    ghost use Rattle.call_table.specs.declared.limit.TheConstants.{STEPS};
     ghost use Rattle.user_ctx.specs.Heap.{IsHeap};
     ghost use Rattle.page_set.specs.Pages.{with_bytes};
     ghost use Rattle.user_spec.specs.User.{UserState, coded_user};
@@ -67,7 +60,7 @@ impl Model for User {
 
     ghost view = { λ u. record { pc = u.pc; registers = drop 1 u.x; pages = u.pages; base = u.base; brk = u.brk; pid = u.pid; count = u.count } };
 
-    ghost invariant = { λ u. (u.x ≡ 0 ∷ drop 1 u.x) × (u.count ≤ 2 ^ 26) × IsHeap u.base u.brk u.full u.bare u.pages };
+    ghost invariant = { λ u. (u.x ≡ 0 ∷ drop 1 u.x) × (u.count ≤ STEPS) × IsHeap u.base u.brk u.full u.bare u.pages };
 }
 
 /// The five words that follow one another in the registers from x10 on, and a sixth.
@@ -82,7 +75,7 @@ fn limited(outcome: Outcome, is_short: bool) -> Outcome
     ensures { result ≡ limited outcome is_short }
 {
     match outcome {
-        Outcome::Done if is_short => Outcome::Fault(24),
+        Outcome::Done if is_short => Outcome::Fault(SIGXCPU),
         _ => outcome,
     }
 }
@@ -129,7 +122,7 @@ impl User {
     /// How many steps it has made.
     pub fn count(&self) -> u32
         ensures is { result ≡ self.now.count }
-        ensures most { result ≤ 2 ^ 26 }
+        ensures most { result ≤ STEPS }
     {
         self.count
     }
@@ -150,7 +143,7 @@ impl User {
         ensures went { Leads result.0 self.old self.new }
         ensures end { EndsAs result.1 result.0 n self.new }
     {
-        let most = n.min(MOST_STEPS - self.count);
+        let most = n.min(STEPS - self.count);
         let (went, outcome) = steps::run(&mut self.pc, &mut self.x, &mut self.pages, most);
         self.count += went;
         (went, limited(outcome, most < n))
@@ -158,14 +151,14 @@ impl User {
 
     /// One step: an instruction, or a call that ends where the process runs.
     pub fn step(&mut self) -> Stop
-        ensures { StepsTo result self.old self.new }
+        ensures { stepped self.old ≡ record { stop = result; user = self.new } }
     {
         let (_, stop) = self.run(1);
         stop
     }
 
     /// Steps until so many went or one did not: how many went, and how the last one came out.
-    #[tactic(auto, using(crate::proofs::Walks::walked_on, crate::proofs::Walks::walked_one, crate::proofs::Walks::walked_stop, crate::proofs::Walks::walked_whole))]
+    #[tactic(auto, using(crate::proofs::Walks::walked_on, crate::proofs::Walks::walked_step, crate::proofs::Walks::walked_stop, crate::proofs::Walks::walked_whole))]
     pub fn run(&mut self, k: u32) -> (u32, Stop)
         ensures most { result.0 ≤ k }
         ensures went { walked k self.old ≡ record { went = result.0; user = self.new } }
@@ -209,16 +202,16 @@ impl User {
 
     /// What the call answers, where it ends here.
     fn local_value(&self) -> Option<u32>
-        requires { number_of self.now ≢ 18 }
+        requires { number_of self.now ≢ BRK }
         ensures { IsLocal result self.now }
     {
         let number = self.x[17];
         if number == GETPID {
             Some(self.pid)
         } else if is_local(number) {
-            Some(NO_SUCH_CALL.cast_unsigned())
+            Some(ENOSYS.cast_unsigned())
         } else if !self.has_buffer() {
-            Some(BAD_ADDRESS.cast_unsigned())
+            Some(EFAULT.cast_unsigned())
         } else {
             None
         }
@@ -234,7 +227,7 @@ impl User {
 
     /// The return of a call that was a step.
     fn finish(&mut self, value: u32)
-        requires { self.old.count < 2 ^ 26 }
+        requires { self.old.count < STEPS }
         ensures { self.new ≡ counted (with_value self.old value) }
     {
         self.resume(value);
@@ -245,7 +238,7 @@ impl User {
     #[tactic(auto, using(crate::proofs::Calls::local, crate::proofs::Calls::forwarded))]
     fn local_step(&mut self) -> Stop
         requires { IsAtEcall self.old }
-        ensures { StepsTo result self.old self.new }
+        ensures { stepped self.old ≡ record { stop = result; user = self.new } }
     {
         if self.x[17] == BRK {
             return self.break_step();
@@ -275,14 +268,14 @@ impl User {
             return Plan::Refused;
         }
         let end = heap::page_above(a);
-        if (end - self.base / 4096) as u64 > MOST_PAGES {
+        if end - self.base / 4096 > PAGES {
             return Plan::Refused;
         }
         let low = self.full.min(end);
         let lacking = end - low - heap::mapped_in(&self.pages, low, end);
         let gone = heap::mapped_in(&self.pages, end, self.bare.max(end));
         let count = (self.pages.count() - gone) as u64 + lacking as u64;
-        if count > MOST_PAGES {
+        if count > PAGES as u64 {
             Plan::Refused
         } else if lacking == 0 {
             Plan::Fits
@@ -306,7 +299,7 @@ impl User {
 
     /// The return of a brk that was a step.
     fn finish_break(&mut self)
-        requires { self.old.count < 2 ^ 26 }
+        requires { self.old.count < STEPS }
         ensures { self.new ≡ counted (with_brk self.old) }
     {
         let brk = self.brk;
@@ -324,8 +317,8 @@ impl User {
     #[tactic(auto, using(crate::proofs::Calls::break_refused, crate::proofs::Calls::break_moved, crate::proofs::Calls::break_grows))]
     fn break_step(&mut self) -> Stop
         requires at { IsAtEcall self.old }
-        requires brk { number_of self.old ≡ 18 }
-        ensures { StepsTo result self.old self.new }
+        requires brk { number_of self.old ≡ BRK }
+        ensures { stepped self.old ≡ record { stop = result; user = self.new } }
     {
         self.settle();
         let a = self.wanted_break();
@@ -465,21 +458,15 @@ impl User {
     }
 
     /// The signal of its fault, none at a forwarded call.
-    #[tactic(auto, using(crate::proofs::Asking::asks_full, crate::proofs::Asking::asks_word, crate::proofs::Asking::asks_unaligned, crate::proofs::Asking::asks_unfetched))]
+    #[tactic(auto, using(crate::proofs::Asking::asks_full))]
     fn signal(&self) -> Option<u8>
         requires { IsSome (request_of self.now) }
         ensures { AsksBy result self.now }
     {
-        if self.count >= MOST_STEPS {
-            return Some(24);
+        if self.count >= STEPS {
+            return Some(SIGXCPU);
         }
-        if self.pc % 4 != 0 {
-            return Some(11);
-        }
-        match self.pages.load_4(self.pc, 1) {
-            Ok(word) => signal_of(kind_of(word)),
-            Err(_) => Some(11),
-        }
+        signal_of(step::next(self.pc, &self.x, &self.pages))
     }
 
     /// What it asks at a forwarded call or at a fault.
@@ -605,13 +592,14 @@ fn fault_request(alloc: Global, signal: u8) -> Request
 }
 
 /// The signal of an instruction that does not go, none where it is a call.
-fn signal_of(kind: WordKind) -> Option<u8>
-    ensures { result ≡ signal_of kind }
+fn signal_of(effect: Effect) -> Option<u8>
+    ensures { result ≡ signal_of effect }
 {
-    match kind {
-        WordKind::Unknown => Some(4),
-        WordKind::Call => None,
-        WordKind::Break => Some(5),
-        WordKind::Other => Some(11),
+    match effect {
+        Effect::Calls => None,
+        Effect::Raises(signal) => Some(signal),
+        Effect::Loads { .. } => Some(SIGSEGV),
+        Effect::Stores { .. } => Some(SIGSEGV),
+        Effect::Sets { .. } => Some(SIGSEGV),
     }
 }

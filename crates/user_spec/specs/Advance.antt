@@ -2,7 +2,14 @@
 use Rattle.std.specs.Prelude.{ℕ, zero, suc, ◌+◌, ◌-◌, ◌^◌, List, [], ◌∷◌, Bool, true, false, not, Option, Some, None, ◌==◌, ◌&&◌, ◌||◌, if◌then◌else◌, nat_le, slice_index}
 use Rattle.call_table.specs.declared.request.Request.{Request}
 use Rattle.user_spec.specs.User.{UserState}
-use Rattle.user_spec.specs.Instruction.{Core, Ran, RanTo, RanAtCall, RanFaults, one_instruction}
+use Rattle.user_spec.specs.Instruction.{Core, Ran, one_instruction}
+use Rattle.user_spec.specs.declared.outcome.Outcome.{Outcome}
+use Rattle.user_spec.specs.declared.outcome.Outcome.TheVariants as outcome
+use Rattle.user_spec.specs.declared.outcome.Stop.{Stop}
+use Rattle.user_spec.specs.declared.outcome.Stop.TheVariants as stop
+use Rattle.call_table.specs.declared.call.TheConstants.{BRK}
+use Rattle.call_table.specs.declared.limit.TheConstants.{STEPS}
+use Rattle.call_table.specs.declared.signal.TheConstants.{SIGXCPU}
 use Rattle.user_spec.specs.Request.{number_of, args_of, is_local_call, local_call, break_maps, call_request, fault_request}
 
 -- what one step does
@@ -27,25 +34,45 @@ counted u = record u { count = u.count + 1 }
 abbrev pub at_call : UserState → Went
 at_call u = if is_local_call u then Done (counted (local_call u)) else AtCall
 
-abbrev pub went_of : UserState → Ran → Went
-went_of u (RanTo c) = Done (with_core u 1 c)
-went_of u RanAtCall = at_call u
-went_of u (RanFaults signal) = Faults signal
+abbrev pub went_by : UserState → Outcome → Core → Went
+went_by u outcome.Done c = Done (with_core u 1 c)
+went_by u outcome.Call c = at_call u
+went_by u (outcome.Fault signal) c = Faults signal
 
--- after 2 ^ 26 steps a process ends by signal 24
+abbrev pub went_of : UserState → Ran → Went
+went_of u r = went_by u r.outcome r.core
+
+-- after its last step a process ends by a signal
 abbrev pub advance : UserState → Went
-advance u = if nat_le (2 ^ 26) u.count then Faults 24 else went_of u (one_instruction (core_of u))
+advance u = if nat_le STEPS u.count then Faults SIGXCPU else went_of u (one_instruction (core_of u))
 
 -- ---- growth: the next step is a brk that maps a page
 
+abbrev pub is_call : Outcome → Bool
+is_call outcome.Call = true
+is_call outcome.Done = false
+is_call (outcome.Fault signal) = false
+
 abbrev pub is_at_ecall : Ran → Bool
-is_at_ecall RanAtCall = true
-is_at_ecall (RanTo c) = false
-is_at_ecall (RanFaults signal) = false
+is_at_ecall r = is_call r.outcome
 
 abbrev pub grows : UserState → Bool
 grows u =
-    not (nat_le (2 ^ 26) u.count) && (is_at_ecall (one_instruction (core_of u)) && ((number_of u == 18) && break_maps u (slice_index (args_of u) 0)))
+    not (nat_le STEPS u.count) && (is_at_ecall (one_instruction (core_of u)) && ((number_of u == BRK) && break_maps u (slice_index (args_of u) 0)))
+
+-- ---- how a step comes out, and the process after it: as it was unless the step was done, and before a growth
+
+pub record Stepped : Type 0 where
+  pub stop : Stop
+  pub user : UserState
+
+abbrev pub stepped_as : Went → UserState → Stepped
+stepped_as (Done v) u = record { stop = stop.Went; user = v }
+stepped_as AtCall u = record { stop = stop.AtCall; user = u }
+stepped_as (Faults signal) u = record { stop = stop.Fault signal; user = u }
+
+abbrev pub stepped : UserState → Stepped
+stepped u = if grows u then record { stop = stop.Grows; user = u } else stepped_as (advance u) u
 
 -- ---- several steps
 

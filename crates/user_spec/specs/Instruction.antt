@@ -12,6 +12,10 @@ use Rattle.user_spec.specs.declared.effect.Width.{Width}
 use Rattle.user_spec.specs.declared.effect.Width.TheVariants.{One, Two, Four}
 use Rattle.user_spec.specs.declared.effect.Effect.{Effect}
 use Rattle.user_spec.specs.declared.effect.Effect.TheVariants.{Sets, Loads, Stores, Calls, Raises}
+use Rattle.user_spec.specs.declared.outcome.Outcome.{Outcome}
+use Rattle.user_spec.specs.declared.outcome.Outcome.TheVariants.{Done, Call, Fault}
+use Rattle.call_table.specs.declared.signal.TheConstants.{SIGILL, SIGTRAP, SIGSEGV}
+use Rattle.call_table.specs.declared.table.TheConstants.{RIGHT_READ, RIGHT_RUN}
 
 -- what an instruction reads and writes
 pub record Core : Type 0 where
@@ -20,13 +24,16 @@ pub record Core : Type 0 where
   pub registers : List ℕ
   pub pages : PageMap
 
--- what one instruction does
-pub data Ran : Type 0 where
-  -- it is done, and this is the state after it
-  RanTo : Core → Ran
-  RanAtCall : Ran
-  -- the signal
-  RanFaults : ℕ → Ran
+-- how one instruction came out, and what it left: all as it was unless it was done
+pub record Ran : Type 0 where
+  pub outcome : Outcome
+  pub core : Core
+
+abbrev pub done : Core → Ran
+done c = record { outcome = Done; core = c }
+
+abbrev pub faults : ℕ → Core → Ran
+faults signal c = record { outcome = Fault signal; core = c }
 
 -- of x0 to x31
 abbrev pub value_of : List ℕ → ℕ → ℕ
@@ -34,7 +41,7 @@ value_of x r = slice_index x r
 
 -- a jump to no multiple of 4 is a fault, and the register is not written
 abbrev pub jump : ℕ → ℕ → ℕ → Effect
-jump rd value target = if target % 4 == 0 then Sets rd value target else Raises 11
+jump rd value target = if target % 4 == 0 then Sets rd value target else Raises SIGSEGV
 
 -- a branch that is taken where the test holds
 abbrev pub branch : Bool → ℕ → ℕ → Effect
@@ -84,22 +91,22 @@ effect_of (Or rd a b) pc x = sets rd (bit_or (value_of x a) (value_of x b)) pc
 effect_of (And rd a b) pc x = sets rd (bit_and (value_of x a) (value_of x b)) pc
 effect_of (Fence bits) pc x = Sets 0 0 (sum_of pc 4)
 effect_of Ecall pc x = Calls
-effect_of Ebreak pc x = Raises 5
+effect_of Ebreak pc x = Raises SIGTRAP
 
 -- ---- the effect of the next instruction, at pc, x0 to x31 and pages
 
 -- a word that is no instruction is a fault
 abbrev pub decoded_effect : Option Instr → ℕ → List ℕ → Effect
-decoded_effect None pc x = Raises 4
+decoded_effect None pc x = Raises SIGILL
 decoded_effect (Some instr) pc x = effect_of instr pc x
 
 abbrev pub fetched_effect : Result ℕ ℕ → ℕ → List ℕ → Effect
 fetched_effect (Ok word) pc x = decoded_effect (instruction_of word) pc x
-fetched_effect (Err addr) pc x = Raises 11
+fetched_effect (Err addr) pc x = Raises SIGSEGV
 
 -- a fetch wants the right to execute on four bytes
 abbrev pub next_effect : ℕ → List ℕ → PageMap → Effect
-next_effect pc x pages = if pc % 4 == 0 then fetched_effect (loaded pages pc 4 1) pc x else Raises 11
+next_effect pc x pages = if pc % 4 == 0 then fetched_effect (loaded pages pc 4 RIGHT_RUN) pc x else Raises SIGSEGV
 
 -- ---- and on the state
 
@@ -108,11 +115,11 @@ signed n (Ok w) = Ok (sign_filled n w)
 signed n (Err addr) = Err addr
 
 abbrev pub load_as : Form → PageMap → ℕ → Result ℕ ℕ
-load_as SignedByte pages addr = signed 8 (loaded pages addr 1 4)
-load_as SignedHalf pages addr = signed 16 (loaded pages addr 2 4)
-load_as Word pages addr = loaded pages addr 4 4
-load_as Byte pages addr = loaded pages addr 1 4
-load_as Half pages addr = loaded pages addr 2 4
+load_as SignedByte pages addr = signed 8 (loaded pages addr 1 RIGHT_READ)
+load_as SignedHalf pages addr = signed 16 (loaded pages addr 2 RIGHT_READ)
+load_as Word pages addr = loaded pages addr 4 RIGHT_READ
+load_as Byte pages addr = loaded pages addr 1 RIGHT_READ
+load_as Half pages addr = loaded pages addr 2 RIGHT_READ
 
 abbrev pub store_as : Width → PageMap → ℕ → ℕ → Result PageMap ℕ
 store_as One pages addr value = stored pages addr (bytes_1 value)
@@ -120,29 +127,32 @@ store_as Two pages addr value = stored pages addr (bytes_2 value)
 store_as Four pages addr value = stored pages addr (bytes_4 value)
 
 abbrev pub with_loaded : ℕ → Result ℕ ℕ → Core → Ran
-with_loaded rd (Ok value) c = RanTo (record c { pc = sum_of c.pc 4; registers = with_register c.registers rd value })
-with_loaded rd (Err addr) c = RanFaults 11
+with_loaded rd (Ok value) c = done (record c { pc = sum_of c.pc 4; registers = with_register c.registers rd value })
+with_loaded rd (Err addr) c = faults SIGSEGV c
 
 abbrev pub with_stored : Result PageMap ℕ → Core → Ran
-with_stored (Ok pages) c = RanTo (record c { pc = sum_of c.pc 4; pages = pages })
-with_stored (Err addr) c = RanFaults 11
+with_stored (Ok pages) c = done (record c { pc = sum_of c.pc 4; pages = pages })
+with_stored (Err addr) c = faults SIGSEGV c
 
 abbrev pub applied : Effect → Core → Ran
-applied (Sets rd value next) c = RanTo (record c { pc = next; registers = with_register c.registers rd value })
+applied (Sets rd value next) c = done (record c { pc = next; registers = with_register c.registers rd value })
 applied (Loads rd addr form) c = with_loaded rd (load_as form c.pages addr) c
 applied (Stores addr value width) c = with_stored (store_as width c.pages addr value) c
-applied Calls c = RanAtCall
-applied (Raises signal) c = RanFaults signal
+applied Calls c = record { outcome = Call; core = c }
+applied (Raises signal) c = faults signal c
 
 abbrev pub one_instruction : Core → Ran
 one_instruction c = applied (next_effect c.pc (0 ∷ c.registers) c.pages) c
 
 -- ---- several instructions, none where one of them does not go
 
+abbrev pub on_outcome : Outcome → Core → (Core → Option Core) → Option Core
+on_outcome Done c go = go c
+on_outcome Call c go = None
+on_outcome (Fault signal) c go = None
+
 abbrev pub on_ran : Ran → (Core → Option Core) → Option Core
-on_ran (RanTo c) go = go c
-on_ran RanAtCall go = None
-on_ran (RanFaults signal) go = None
+on_ran r go = on_outcome r.outcome r.core go
 
 abbrev pub ran : ℕ → Core → Option Core
 ran zero c = Some c

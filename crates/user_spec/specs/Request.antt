@@ -10,6 +10,10 @@ use Rattle.call_table.specs.declared.request.Need.{Need}
 use Rattle.call_table.specs.declared.request.Kind.{Kind}
 use Rattle.call_table.specs.declared.request.Kind.TheVariants.{Plain, Fork, Return}
 use Rattle.page_set.specs.Pages.{PageMap, flat_at, loaded, bytes_4, with_bytes, zero_page, page_with_rights, changed_page}
+use Rattle.call_table.specs.declared.call.TheConstants.{GETPID, SIGRETURN, BRK}
+use Rattle.call_table.specs.declared.error.TheConstants.{ENOSYS, EFAULT}
+use Rattle.call_table.specs.declared.limit.TheConstants.{PAGES}
+use Rattle.call_table.specs.declared.table.TheConstants.{RIGHT_READ, RIGHT_WRITE, FRAME_SIZE}
 use Rattle.user_spec.specs.Words.{sum_of}
 use Rattle.user_spec.specs.User.{UserState, with_register}
 
@@ -38,23 +42,23 @@ has_buffer u = is_ok (buffer_bytes u.pages (buffer_of u))
 
 abbrev pub is_read : Option Need → Bool
 is_read None = false
-is_read (Some need) = need.right == 4
+is_read (Some need) = need.right == RIGHT_READ
 
 -- what the kernel is handed: a buffer that is read, but for sigreturn's
 abbrev pub handed_bytes : UserState → List ℕ
-handed_bytes u = if is_read (buffer_of u) && not (number_of u == 16) then result_unwrap_or (buffer_bytes u.pages (buffer_of u)) [] else []
+handed_bytes u = if is_read (buffer_of u) && not (number_of u == SIGRETURN) then result_unwrap_or (buffer_bytes u.pages (buffer_of u)) [] else []
 
 -- ---- the frame of a signal: pc, x1 to x31 and the mask, 132 bytes below the stack pointer, at a multiple of 16
 
 abbrev pub frame_at : ℕ → ℕ
-frame_at sp = sum_of sp (2 ^ 32 - 132) / 16 * 16
+frame_at sp = sum_of sp (2 ^ 32 - FRAME_SIZE) / 16 * 16
 
 unfoldable pub has_frame_room : PageMap → ℕ → Bool
-has_frame_room pages sp = is_ok (flat_at pages 2 (frame_at sp) 132)
+has_frame_room pages sp = is_ok (flat_at pages RIGHT_WRITE (frame_at sp) FRAME_SIZE)
 
 -- word i of the frame at an address
 abbrev pub frame_word : PageMap → ℕ → ℕ → ℕ
-frame_word pages at i = result_unwrap_or (loaded pages (sum_of at (4 * i)) 4 4) 0
+frame_word pages at i = result_unwrap_or (loaded pages (sum_of at (4 * i)) 4 RIGHT_READ) 0
 
 -- the registers that a frame holds, from x(i) on
 unfoldable pub frame_registers : PageMap → ℕ → ℕ → ℕ → List ℕ
@@ -63,11 +67,11 @@ frame_registers pages at i (suc n) = frame_word pages at i ∷ frame_registers p
 
 -- the stack pointer that stands after the return
 abbrev pub returned_pointer : UserState → ℕ
-returned_pointer u = if number_of u == 16 then frame_word u.pages (stack_pointer u) 2 else stack_pointer u
+returned_pointer u = if number_of u == SIGRETURN then frame_word u.pages (stack_pointer u) 2 else stack_pointer u
 
 -- sigreturn's first argument is the mask that its frame holds
 abbrev pub asked_args : UserState → List ℕ
-asked_args u = if number_of u == 16 then slice_set (args_of u) 0 (frame_word u.pages (stack_pointer u) 32) else args_of u
+asked_args u = if number_of u == SIGRETURN then slice_set (args_of u) 0 (frame_word u.pages (stack_pointer u) 32) else args_of u
 
 -- the words that are pushed: pc, x1 to x31, and the mask that stood
 abbrev pub frame_words : UserState → ℕ → List ℕ
@@ -155,10 +159,10 @@ abbrev pub pages_with_break : PageMap → ℕ → ℕ → PageMap
 pages_with_break pages base a =
     with_heap_pages (without_pages pages (page_above a) (0x70000 - page_above a)) (base / 4096) (page_above a - base / 4096)
 
--- a break that can be had: a process has at most 1,024 pages
+-- a break that can be had: a process has not more pages than it may
 abbrev pub is_break : UserState → ℕ → Bool
 is_break u a =
-    not (a == 0) && (nat_le u.base a && (nat_le a 0x70000000 && nat_le (map.len (pages_with_break u.pages u.base a)) 1024))
+    not (a == 0) && (nat_le u.base a && (nat_le a 0x70000000 && nat_le (map.len (pages_with_break u.pages u.base a)) PAGES))
 
 abbrev pub with_break : UserState → ℕ → UserState
 with_break u a = if is_break u a then record u { pages = pages_with_break u.pages u.base a; brk = a } else u
@@ -186,6 +190,6 @@ with_brk u = with_value u u.brk
 
 abbrev pub local_call : UserState → UserState
 local_call u =
-    if number_of u == 2 then with_value u u.pid else
-    (if number_of u == 18 then with_brk (with_break u (slice_index (args_of u) 0)) else
-    (if is_site_local (number_of u) then with_value u (2 ^ 32 - 38) else with_value u (2 ^ 32 - 14)))
+    if number_of u == GETPID then with_value u u.pid else
+    (if number_of u == BRK then with_brk (with_break u (slice_index (args_of u) 0)) else
+    (if is_site_local (number_of u) then with_value u (cast_unsigned w32 ENOSYS) else with_value u (cast_unsigned w32 EFAULT)))

@@ -1,5 +1,5 @@
 // Programs on files, assembled and run, from the text to the report.
-use crate::in_memory::{run_text, tells};
+use crate::in_memory::texts_tell;
 use std::test::Fail;
 
 /// Writes a file, reads it back and shows it; makes another, which goes while it is held.
@@ -95,27 +95,26 @@ sys 1
 f: .ascii \"f123456789\"
 ";
 
+/// The reports of the runs of their programs.
+const REPORTS: [(&[u8], u8, &[u8]); 6] = [
+    (
+        NOTES,
+        0,
+        b"terminal 23\nbuy bread\nfeed the cat\n\nprocess 1 exit 0\nfile todo 23\nbuy bread\nfeed the cat\n\ndone\n",
+    ),
+    (READ_NOWHERE, 0, b"terminal 0\n\nprocess 1 exit 14\ndone\n"),
+    (READ_STACK, 0, b"terminal 0\n\nprocess 1 exit 9\ndone\n"),
+    (READ_TERMINAL, 10, b"not built\n"),
+    (
+        TWO_FILES,
+        0,
+        b"terminal 0\n\nprocess 1 exit 0\nfile b 2\nzb\nfile z 0\n\ndone\n",
+    ),
+    (FULL_FILE, 0, b"terminal 0\n\nprocess 1 exit 87\ndone\n"),
+];
+
 #[test]
 fn reports_of_files(rt: HostRuntime) -> Result<(), Fail> {
-    let table: [(&[u8], u8, &[u8]); 6] = [
-        (
-            NOTES,
-            0,
-            b"terminal 23\nbuy bread\nfeed the cat\n\nprocess 1 exit 0\nfile todo 23\nbuy bread\nfeed the cat\n\ndone\n",
-        ),
-        (READ_NOWHERE, 0, b"terminal 0\n\nprocess 1 exit 14\ndone\n"),
-        (READ_STACK, 0, b"terminal 0\n\nprocess 1 exit 9\ndone\n"),
-        (READ_TERMINAL, 10, b"not built\n"),
-        (
-            TWO_FILES,
-            0,
-            b"terminal 0\n\nprocess 1 exit 0\nfile b 2\nzb\nfile z 0\n\ndone\n",
-        ),
-        (FULL_FILE, 0, b"terminal 0\n\nprocess 1 exit 87\ndone\n"),
-    ];
-    for (text, status, output) in table {
-        let told = run_text(rt.alloc(), text)?;
-        tells(&rt, &told, status, output);
-    }
+    texts_tell(&rt, rt.alloc(), &REPORTS)?;
     Ok(())
 }

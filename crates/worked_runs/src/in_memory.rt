@@ -1,6 +1,7 @@
 // A run in memory, and what it tells.
 use call_table::{Bytes, Named, Names, NoMemory, Text, Words};
-use mosix_shell::mosix::{Ended, Why, mosix};
+use mosix_shell::mosix::{Ended, mosix};
+use mosix_shell::why::Why;
 use outside::{Calls, MemImages, MemSink, MemSource};
 use std::alloc::Global;
 use std::process::Abort;
@@ -118,7 +119,20 @@ fn run_file(alloc: Global, file: &[u8]) -> Result<Told, NoMemory> {
 }
 
 /// The run of a text's program.
-pub fn run_text(alloc: Global, text: &[u8]) -> Result<Told, NoMemory> {
+fn run_text(alloc: Global, text: &[u8]) -> Result<Told, NoMemory> {
     let file = assembled(alloc, text, NEVER)?;
     run_file(alloc, file.output.as_slice())
+}
+
+/// Texts, and the status and the bytes that the runs of their programs tell.
+pub fn texts_tell(
+    rt: &impl Abort,
+    alloc: Global,
+    rows: &[(&[u8], u8, &[u8])],
+) -> Result<(), NoMemory> {
+    for row in rows {
+        let told = run_text(alloc, row.0)?;
+        tells(rt, &told, row.1, row.2);
+    }
+    Ok(())
 }

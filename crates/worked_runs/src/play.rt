@@ -80,26 +80,33 @@ fn a_fall_that_is_played(rt: HostRuntime) -> Result<(), Fail> {
     Ok(())
 }
 
+const GOES: Step = Step::Steps { pid: 1, k: 5 };
+
+/// Steps, and the first that is not enabled.
+const NOT_ENABLED: [(&[Step], u32); 7] = [
+    (&[Step::Launch(0), Step::Do(1)], 1),
+    (&[Step::Do(1), Step::Launch(0)], 0),
+    (&[Step::Launch(1)], 0),
+    (
+        &[Step::Launch(0), Step::Launch(0), GOES, GOES, Step::Do(2)],
+        3,
+    ),
+    (&[Step::Launch(0), Step::Steps { pid: 1, k: 6 }], 1),
+    (&[Step::Launch(0), GOES, Step::Fall(1), Step::Do(1)], 2),
+    (&[Step::Launch(0), GOES, Step::Do(2)], 2),
+];
+
+fn are_not_enabled(rt: &impl Abort, alloc: Global, setup: &Setup, rows: &[(&[Step], u32)]) {
+    for row in rows {
+        let fault = play(alloc, setup, row.0).err();
+        assert_eq!(rt; fault, Some(PlayFault::NotEnabled { at: row.1 }));
+    }
+}
+
 #[test]
 fn steps_that_are_not_enabled(rt: HostRuntime) -> Result<(), Fail> {
     let setup = hello(rt.alloc())?;
-    let goes = Step::Steps { pid: 1, k: 5 };
-    let table: [(&[Step], u32); 7] = [
-        (&[Step::Launch(0), Step::Do(1)], 1),
-        (&[Step::Do(1), Step::Launch(0)], 0),
-        (&[Step::Launch(1)], 0),
-        (
-            &[Step::Launch(0), Step::Launch(0), goes, goes, Step::Do(2)],
-            3,
-        ),
-        (&[Step::Launch(0), Step::Steps { pid: 1, k: 6 }], 1),
-        (&[Step::Launch(0), goes, Step::Fall(1), Step::Do(1)], 2),
-        (&[Step::Launch(0), goes, Step::Do(2)], 2),
-    ];
-    for (steps, at) in table {
-        let fault = play(rt.alloc(), &setup, steps).err();
-        assert_eq!(rt; fault, Some(PlayFault::NotEnabled { at }));
-    }
+    are_not_enabled(&rt, rt.alloc(), &setup, &NOT_ENABLED);
     Ok(())
 }
 

@@ -2,7 +2,6 @@
 use crate::images::images;
 use crate::in_memory::{Failing, NEVER, RUN, Told, answer, run_in_memory, run_to_end, tells};
 use call_table::{Bytes, End, Named, Names, NoMemory, PidState, Reply3};
-use mosix_shell::mosix::Why;
 use mosix_shell::run::{Last, Run};
 use node_event::{Event, Way, What};
 use outside::{Calls, MemImages, MemSink, MemSource, Source};
@@ -16,7 +15,7 @@ fn run(alloc: Global, words: &[&str], script: &[u8], failing: Failing) -> Result
 }
 
 /// The status of a script's run, and its report or line.
-const SCRIPTS: [(&[u8], u8, &[u8]); 15] = [
+const SCRIPTS: [(&[u8], u8, &[u8]); 16] = [
     (
         b"run hello",
         0,
@@ -44,71 +43,101 @@ const SCRIPTS: [(&[u8], u8, &[u8]); 15] = [
     (b"run bad", 0, b"terminal 0\n\nprocess 1 signal 4\ndone\n"),
     (b"run edge", 0, b"terminal 0\n\nprocess 1 signal 11\ndone\n"),
     (b"run jump1", 0, b"terminal 0\n\nprocess 1 exit 5\ndone\n"),
+    (
+        b"run jump2\n",
+        0,
+        b"terminal 0\n\nprocess 1 signal 11\ndone\n",
+    ),
 ];
+
+fn scripts_tell(
+    rt: &impl Abort,
+    alloc: Global,
+    rows: &[(&[u8], u8, &[u8])],
+) -> Result<(), NoMemory> {
+    for row in rows {
+        let told = run(alloc, &RUN, row.0, NEVER)?;
+        tells(rt, &told, row.1, row.2);
+    }
+    Ok(())
+}
 
 #[test]
 fn scripts(rt: HostRuntime) -> Result<(), Fail> {
-    for (script, status, output) in SCRIPTS {
-        let told = run(rt.alloc(), &RUN, script, NEVER)?;
-        tells(&rt, &told, status, output);
-    }
-    let told = run(rt.alloc(), &RUN, b"run jump2\n", NEVER)?;
-    tells(&rt, &told, 0, b"terminal 0\n\nprocess 1 signal 11\ndone\n");
+    scripts_tell(&rt, rt.alloc(), &SCRIPTS)?;
     Ok(())
 }
 
 /// The run of a name of so many bytes, which no image has.
-fn run_long_name(alloc: Global, length: usize) -> Result<Told, NoMemory> {
+fn long_name_tells(
+    rt: &impl Abort,
+    alloc: Global,
+    length: usize,
+    status: u8,
+    output: &[u8],
+) -> Result<(), NoMemory> {
     let mut script = Bytes::from_slice(alloc, b"run ")?;
     for _i in 0..length {
         script.push(b'n')?;
     }
-    run(alloc, &RUN, script.as_slice(), NEVER)
+    let told = run(alloc, &RUN, script.as_slice(), NEVER)?;
+    tells(rt, &told, status, output);
+    Ok(())
 }
 
 #[test]
 fn names(rt: HostRuntime) -> Result<(), Fail> {
-    let told = run_long_name(rt.alloc(), 1000)?;
-    tells(&rt, &told, 4, b"bad image 1 12\n");
-    let told = run_long_name(rt.alloc(), 1001)?;
-    tells(&rt, &told, 10, b"not built\n");
+    long_name_tells(&rt, rt.alloc(), 1000, 4, b"bad image 1 12\n")?;
+    long_name_tells(&rt, rt.alloc(), 1001, 10, b"not built\n")?;
     Ok(())
 }
 
 /// The run of an image of so many zeros.
-fn run_zeros(alloc: Global, length: usize) -> Result<Told, NoMemory> {
+fn zeros_tell(
+    rt: &impl Abort,
+    alloc: Global,
+    length: usize,
+    output: &[u8],
+) -> Result<(), NoMemory> {
     let zeros = vec![in alloc; 0; length]?;
     let mut files = Names::new(alloc);
     files.push(Named {
         name: Bytes::from_slice(alloc, b"zeros")?,
         bytes: Bytes::from_vec(zeros),
     })?;
-    run_in_memory(alloc, &RUN, b"run zeros", files, NEVER)
+    let told = run_in_memory(alloc, &RUN, b"run zeros", files, NEVER)?;
+    tells(rt, &told, 4, output);
+    Ok(())
 }
 
 #[test]
 fn the_longest_image(rt: HostRuntime) -> Result<(), Fail> {
-    let told = run_zeros(rt.alloc(), 16_777_216)?;
-    tells(&rt, &told, 4, b"bad image 1 2\n");
-    let told = run_zeros(rt.alloc(), 16_777_217)?;
-    tells(&rt, &told, 4, b"bad image 1 13\n");
+    zeros_tell(&rt, rt.alloc(), 16_777_216, b"bad image 1 2\n")?;
+    zeros_tell(&rt, rt.alloc(), 16_777_217, b"bad image 1 13\n")?;
+    Ok(())
+}
+
+/// Words of no mode.
+const WORDS: [&[&str]; 6] = [
+    &[],
+    &["--nodes", "9", "run"],
+    &["--nodes", "1"],
+    &["asm", "asm"],
+    &["--nodes", "1", "asm"],
+    &["assemble"],
+];
+
+fn are_bad_words(rt: &impl Abort, alloc: Global, rows: &[&[&str]]) -> Result<(), NoMemory> {
+    for words in rows {
+        let told = run(alloc, *words, b"run hello\n", NEVER)?;
+        tells(rt, &told, 2, b"bad words\n");
+    }
     Ok(())
 }
 
 #[test]
 fn words(rt: HostRuntime) -> Result<(), Fail> {
-    let table: [&[&str]; 6] = [
-        &[],
-        &["--nodes", "9", "run"],
-        &["--nodes", "1"],
-        &["asm", "asm"],
-        &["--nodes", "1", "asm"],
-        &["assemble"],
-    ];
-    for words in table {
-        let told = run(rt.alloc(), words, b"run hello\n", NEVER)?;
-        tells(&rt, &told, 2, b"bad words\n");
-    }
+    are_bad_words(&rt, rt.alloc(), &WORDS)?;
     Ok(())
 }
 
@@ -137,14 +166,43 @@ fn what_is_read(rt: HostRuntime) -> Result<(), Fail> {
     Ok(())
 }
 
+/// The words, the input, which call of the source and which of the sink fails, the status, and what is written.
+type Fault<'a> = (&'a [&'a str], &'a [u8], Failing, u8, &'a [u8]);
+
+/// A report or a file that is not written whole, an input that is not read, and a line that is not written, which leaves the answer.
+const FAULTS: [Fault<'static>; 7] = [
+    (
+        &["--nodes", "1", "run"],
+        b"run hello",
+        (0, 2),
+        6,
+        b"terminal 3\n",
+    ),
+    (
+        &["--nodes", "1", "run"],
+        b"run hello",
+        (1, 0),
+        5,
+        b"read fault\n",
+    ),
+    (&["--nodes", "1", "run"], b"walk hello", (0, 1), 10, b""),
+    (&["walk"], b"run hello", (0, 1), 2, b""),
+    (&["asm"], b"nop", (1, 0), 5, b"read fault\n"),
+    (&["asm"], b"nop", (0, 1), 6, b""),
+    (&["asm"], b"foo", (0, 1), 11, b""),
+];
+
+fn faults_tell(rt: &impl Abort, alloc: Global, rows: &[Fault]) -> Result<(), NoMemory> {
+    for row in rows {
+        let told = run(alloc, row.0, row.1, row.2)?;
+        tells(rt, &told, row.3, row.4);
+    }
+    Ok(())
+}
+
 #[test]
 fn failing_outside(rt: HostRuntime) -> Result<(), Fail> {
-    let told = run(rt.alloc(), &RUN, b"run hello", (0, 2))?;
-    tells(&rt, &told, 6, b"terminal 3\n");
-    assert_eq!(rt; told.why, Why::WriteFault);
-    let told = run(rt.alloc(), &RUN, b"run hello", (1, 0))?;
-    tells(&rt, &told, 5, b"read fault\n");
-    assert_eq!(rt; told.why, Why::ReadFault);
+    faults_tell(&rt, rt.alloc(), &FAULTS)?;
     Ok(())
 }
 

@@ -1,48 +1,38 @@
 // The worked texts, assembled in memory, and some of them run.
-use crate::images::{self, HELLO, headers, jump, program};
-use crate::in_memory::{NEVER, Told, assembled, run_text, tells};
+use crate::images::{self, HELLO, jump, program};
+use crate::in_memory::{NEVER, Told, assembled, tells, texts_tell};
 use call_table::NoMemory;
-use mosix_shell::mosix::Why;
+use mosix_shell::why::Why;
 use std::alloc::Global;
 use std::process::Abort;
 use std::test::Fail;
-
-/// The file is that of this code, with the headers of hello but for its two sizes.
-fn has_code(rt: &impl Abort, told: &Told, size: u8, code: &[u8]) {
-    assert_eq!(rt; told.status, 0);
-    let file = told.output.as_slice();
-    assert_eq!(rt; file.len(), 84 + code.len());
-    assert!(rt; file.starts_with(&headers(size)));
-    assert!(rt; file.ends_with(code));
-}
 
 const HELLO_TEXT: &[u8] =
     b"addi a0, x0, 1\nlui a1, 0x10\naddi a1, a1, 36\naddi a2, x0, 3\naddi a7, x0, 9\necall
 addi a0, x0, 0\naddi a7, x0, 1\necall\n.ascii \"hi\\n\"\n";
 
-#[test]
-fn worked_texts(rt: HostRuntime) -> Result<(), Fail> {
-    let told = assembled(rt.alloc(), b"addi a0, x0, 5\nsys 1\n", NEVER)?;
-    let five = [
-        0x13, 0x05, 0x50, 0x00, 0xB7, 0x08, 0x00, 0x00, 0x93, 0x88, 0x18, 0x00, 0x73, 0x00, 0x00,
-        0x00,
-    ];
-    has_code(&rt, &told, 16, &five);
-    let told = assembled(rt.alloc(), b"li a0, 0xFFFFFFFF\n", NEVER)?;
-    let ones = [0x37, 0x05, 0x00, 0x00, 0x13, 0x05, 0xF5, 0xFF];
-    has_code(&rt, &told, 8, &ones);
-    let told = assembled(rt.alloc(), HELLO_TEXT, NEVER)?;
-    tells(&rt, &told, 0, &HELLO);
+/// What texts are answered: a file, or the line of the first fault.
+const ANSWERS: [(&[u8], u8, &[u8]); 3] = [
+    (HELLO_TEXT, 0, &HELLO),
+    (b"addi a0, x0", 11, b"bad source 1 7\n"),
+    (b"nop\nfoo\nbar\n", 11, b"bad source 2 2\n"),
+];
+
+fn answers_tell(
+    rt: &impl Abort,
+    alloc: Global,
+    rows: &[(&[u8], u8, &[u8])],
+) -> Result<(), NoMemory> {
+    for row in rows {
+        let told = assembled(alloc, row.0, NEVER)?;
+        tells(rt, &told, row.1, row.2);
+    }
     Ok(())
 }
 
 #[test]
-fn refused_texts(rt: HostRuntime) -> Result<(), Fail> {
-    let told = assembled(rt.alloc(), b"addi a0, x0", NEVER)?;
-    tells(&rt, &told, 11, b"bad source 1 7\n");
-    assert_eq!(rt; told.why, Why::BadSource { line: 1, kind: 7 });
-    let told = assembled(rt.alloc(), b"nop\nfoo\nbar\n", NEVER)?;
-    tells(&rt, &told, 11, b"bad source 2 2\n");
+fn answers_of_texts(rt: HostRuntime) -> Result<(), Fail> {
+    answers_tell(&rt, rt.alloc(), &ANSWERS)?;
     Ok(())
 }
 
@@ -55,18 +45,6 @@ fn a_text_past_the_limit(rt: HostRuntime) -> Result<(), Fail> {
 }
 
 #[test]
-fn a_failing_outside(rt: HostRuntime) -> Result<(), Fail> {
-    let told = assembled(rt.alloc(), HELLO_TEXT, (1, 0))?;
-    tells(&rt, &told, 5, b"read fault\n");
-    let told = assembled(rt.alloc(), HELLO_TEXT, (0, 1))?;
-    tells(&rt, &told, 6, b"");
-    // a line that could not be written leaves the answer
-    let told = assembled(rt.alloc(), b"foo", (0, 1))?;
-    tells(&rt, &told, 11, b"");
-    Ok(())
-}
-
-#[test]
 fn a_file_of_two_pieces(rt: HostRuntime) -> Result<(), Fail> {
     let told = assembled(rt.alloc(), b".space 70000", (0, 2))?;
     assert_eq!(rt; (told.why, told.output.len()), (Why::WriteFault, 65_536));
@@ -74,6 +52,12 @@ fn a_file_of_two_pieces(rt: HostRuntime) -> Result<(), Fail> {
     assert_eq!(rt; (told.why, told.output.len()), (Why::Done, 70_084));
     Ok(())
 }
+
+/// li of 5 and exit.
+const FIVE: [u32; 4] = [0x0050_0513, 0x0000_08B7, 0x0018_8893, 0x0000_0073];
+
+/// li of all ones.
+const ONES: [u32; 2] = [0x0000_0537, 0xFFF5_0513];
 
 const EDGE: &[u8] = b"lui a0, 0x80000\nsw x0, -2(a0)\n";
 
@@ -85,38 +69,39 @@ const JUMP2: &[u8] = b"la a0, t\njalr x0, 2(a0)\nt: li a0, 5\nsys 1\n";
 fn is_program(
     rt: &impl Abort,
     alloc: Global,
-    told: &Told,
+    text: &[u8],
     size: u8,
     code: &[u32],
 ) -> Result<(), NoMemory> {
+    let told = assembled(alloc, text, NEVER)?;
     let image = program(alloc, b"", size, code)?;
-    tells(rt, told, 0, image.bytes.as_slice());
+    tells(rt, &told, 0, image.bytes.as_slice());
     Ok(())
 }
 
 #[test]
-fn texts_of_images(rt: HostRuntime) -> Result<(), Fail> {
-    let told = assembled(rt.alloc(), EDGE, NEVER)?;
-    is_program(&rt, rt.alloc(), &told, 8, &images::EDGE)?;
-    let told = assembled(rt.alloc(), JUMP1, NEVER)?;
-    is_program(&rt, rt.alloc(), &told, 32, &jump(0x0015_0067))?;
-    let told = assembled(rt.alloc(), JUMP2, NEVER)?;
-    is_program(&rt, rt.alloc(), &told, 32, &jump(0x0025_0067))?;
+fn texts_of_programs(rt: HostRuntime) -> Result<(), Fail> {
+    let alloc = rt.alloc();
+    is_program(&rt, alloc, b"addi a0, x0, 5\nsys 1\n", 16, &FIVE)?;
+    is_program(&rt, alloc, b"li a0, 0xFFFFFFFF\n", 8, &ONES)?;
+    is_program(&rt, alloc, EDGE, 8, &images::EDGE)?;
+    is_program(&rt, alloc, JUMP1, 32, &jump(0x0015_0067))?;
+    is_program(&rt, alloc, JUMP2, 32, &jump(0x0025_0067))?;
     Ok(())
 }
+
+/// The reports of programs. Where nothing can be executed at the entry, the file is refused.
+const REPORTS: [(&[u8], u8, &[u8]); 5] = [
+    (HELLO_TEXT, 0, b"terminal 3\nhi\n\nprocess 1 exit 0\ndone\n"),
+    (EDGE, 0, b"terminal 0\n\nprocess 1 signal 11\ndone\n"),
+    (JUMP1, 0, b"terminal 0\n\nprocess 1 exit 5\ndone\n"),
+    (JUMP2, 0, b"terminal 0\n\nprocess 1 signal 11\ndone\n"),
+    (b"# nothing\n.align\n.bss 0\n", 4, b"bad image 1 11\n"),
+];
 
 #[test]
 fn texts_that_run(rt: HostRuntime) -> Result<(), Fail> {
-    let table: [(&[u8], &[u8]); 4] = [
-        (HELLO_TEXT, b"terminal 3\nhi\n\nprocess 1 exit 0\ndone\n"),
-        (EDGE, b"terminal 0\n\nprocess 1 signal 11\ndone\n"),
-        (JUMP1, b"terminal 0\n\nprocess 1 exit 5\ndone\n"),
-        (JUMP2, b"terminal 0\n\nprocess 1 signal 11\ndone\n"),
-    ];
-    for (text, report) in table {
-        let told = run_text(rt.alloc(), text)?;
-        tells(&rt, &told, 0, report);
-    }
+    texts_tell(&rt, rt.alloc(), &REPORTS)?;
     Ok(())
 }
 
@@ -174,19 +159,16 @@ fn has_sizes(rt: &impl Abort, told: &Told, size: u32, memory: u32) {
     assert_eq!(rt; &file[72..76], memory.to_le_bytes().as_slice());
 }
 
-#[test]
-fn programs_to_come(rt: HostRuntime) -> Result<(), Fail> {
-    for (text, size, memory) in TO_COME {
-        let told = assembled(rt.alloc(), text, NEVER)?;
-        has_sizes(&rt, &told, size, memory);
+fn sizes_tell(rt: &impl Abort, alloc: Global, rows: &[(&[u8], u32, u32)]) -> Result<(), NoMemory> {
+    for row in rows {
+        let told = assembled(alloc, row.0, NEVER)?;
+        has_sizes(rt, &told, row.1, row.2);
     }
     Ok(())
 }
 
-/// A text whose program is empty: its file is refused, since nothing can be executed at its entry.
 #[test]
-fn a_text_without_a_program(rt: HostRuntime) -> Result<(), Fail> {
-    let told = run_text(rt.alloc(), b"# nothing\n.align\n.bss 0\n")?;
-    tells(&rt, &told, 4, b"bad image 1 11\n");
+fn programs_to_come(rt: HostRuntime) -> Result<(), Fail> {
+    sizes_tell(&rt, rt.alloc(), &TO_COME)?;
     Ok(())
 }

@@ -1,4 +1,4 @@
-use Rattle.std.proofs.Common.{◌≡◌, ◌∷◌, [], ◌∙◌, ap, List, ℕ}
+use Rattle.std.proofs.Common.{◌∷◌, [], ◌∙◌, ap, List, ℕ}
 use Rattle.mosix_shell.proofs.Verdicts.{loaded_from, refused_image}
 use Rattle.mosix_shell.proofs.mosix.image_user.Goals as goal
 

@@ -1,5 +1,5 @@
-use Rattle.mosix_shell.proofs.Verdicts.{verdict_told}
+use Rattle.mosix_shell.proofs.Answering.{told_run}
 use Rattle.mosix_shell.proofs.mosix.run_script.Goals as goal
 
-pub returns-in-Ok-clause-exact : goal.returns-in-Ok-clause-exact
-returns-in-Ok-clause-exact g c = verdict_told _ _ c.tell.result.why c.in-Ok.ensures.verdict c.tell.ensures.why
+pub returns-in-Ok-clause-answers : goal.returns-in-Ok-clause-answers
+returns-in-Ok-clause-answers g c = told_run _ _ c.tell.result c.in-Ok.run' c.tell.ensures.run c.tell.ensures.why c.in-Ok.ensures.run c.in-Ok.ensures.verdict c.in-Ok.ensures.reads c.tell.ensures.written

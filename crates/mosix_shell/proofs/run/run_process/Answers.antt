@@ -1,6 +1,6 @@
 use Rattle.std.proofs.Common.{◌≡◌, reverse}
 use Rattle.mosix_shell.specs.Turns.{first_moment}
-use Rattle.mosix_shell.proofs.Turning.{from_launch, launched_home, ended_run, unended}
+use Rattle.mosix_shell.proofs.Turning.{from_launch, launched_home, ended_run}
 use Rattle.mosix_shell.proofs.run.run_process.Goals as goal
 
 pub returns : goal.returns

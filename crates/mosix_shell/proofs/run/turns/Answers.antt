@@ -1,4 +1,4 @@
-use Rattle.std.proofs.Common.{◌∙◌, ◌+◌, ap, arith, length, reverse, List}
+use Rattle.std.proofs.Common.{arith, reverse}
 use Rattle.mosix_shell.specs.declared.phase.Phase.TheVariants.{Goes}
 use Rattle.mosix_shell.specs.Running.{moment}
 use Rattle.mosix_shell.proofs.Turning.{all_left, over_at, unbuilt_at, late_at, next_at}

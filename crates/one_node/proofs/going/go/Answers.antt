@@ -1,9 +1,9 @@
 use Rattle.std.proofs.Common.{◌≡◌, arith}
-use Rattle.one_node.proofs.Quanta.{quantum_went, goes_growth, goes_call, goes_fault}
+use Rattle.one_node.proofs.Quanta.{goes_went, goes_growth, goes_call, goes_fault}
 use Rattle.one_node.proofs.going.go.Goals as goal
 
 pub returns-then-went-gt0 : goal.returns-then-went-gt0
-returns-then-went-gt0 c = (quantum_went c.args.quantum c.run-went.result.0 c.args.user.now c.run-went.new.self c.run-went.ensures.went (omega arith), omega arith)
+returns-then-went-gt0 c = goes_went c.args.quantum c.run-went.result.0 c.args.user.now c.run-went.new.self c.run-went.ensures.went (omega arith)
 
 pub returns-in_ok-grow-in-Grows : goal.returns-in_ok-grow-in-Grows
 returns-in_ok-grow-in-Grows c =
@@ -13,9 +13,9 @@ returns-in_ok-grow-in-Grows c =
 pub returns-in-Fault : goal.returns-in-Fault
 returns-in-Fault c =
     let none : c.run-went.result.0 ≡ 0 = omega arith in
-    goes_fault _ _ _ _ _ c.run-went.result.1 c.run-went.ensures.went none c.in-Fault.is c.run-went.ensures.stop
+    goes_fault c.args.quantum c.run-went.result.0 c.in-Fault.field-0 c.args.user.now c.run-went.new.self c.run-went.result.1 c.run-went.ensures.went none c.in-Fault.is c.run-went.ensures.stop
 
 pub returns-in_ok-asked-in-AtCall : goal.returns-in_ok-asked-in-AtCall
 returns-in_ok-asked-in-AtCall c =
     let none : c.run-went.result.0 ≡ 0 = omega arith in
-    goes_call _ _ _ _ c.run-went.result.1 c.run-went.ensures.went none c.in-AtCall.is c.run-went.ensures.stop _ c.in_ok-asked-in-AtCall.ensures
+    goes_call c.args.quantum c.run-went.result.0 c.args.user.now c.run-went.new.self c.run-went.result.1 c.run-went.ensures.went none c.in-AtCall.is c.run-went.ensures.stop _ c.in_ok-asked-in-AtCall.ensures

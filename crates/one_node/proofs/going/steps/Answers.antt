@@ -1,5 +1,5 @@
 use Rattle.std.proofs.Common.{arith}
-use Rattle.user_ctx.specs.declared.stop.Stop.TheVariants as stops
+use Rattle.user_spec.specs.declared.outcome.Stop.TheVariants as stops
 use Rattle.one_node.proofs.Quanta.{all_went, grew, stopped_at_call, stopped_at_fault, run_call, run_fault, is_short, call_not_went, growth_not_went, fault_not_went}
 use Rattle.one_node.proofs.going.steps.Goals as goal
 

@@ -1,9 +1,7 @@
-use Rattle.std.proofs.Common.{◌≡◌, ◌+◌, ◌++◌, drop, length, take}
+use Rattle.std.proofs.Common.{◌≡◌, ◌+◌, ◌-◌, ◌++◌}
 use Rattle.one_node.specs.Machine.{statuses_from}
 use Rattle.one_node.proofs.report.statuses.Given as goal
 
-abbrev pub invariant-loop-end : goal.invariant-loop-end
-invariant-loop-end l = record {
-  made : l.statuses ++ statuses_from l.pid (drop l.end-index l.ends) ≡ statuses_from 1 l.ends;
-  pid : l.pid ≡ l.end-index + 1;
-}
+-- what is made and what is left are all
+abbrev pub invariant-loop-i : goal.invariant-loop-i
+invariant-loop-i l = l.statuses ++ statuses_from l.kernel (l.i + 1) (l.given - l.i) ≡ statuses_from l.kernel 1 l.given

@@ -1,4 +1,7 @@
-use Rattle.user_ctx.proofs.Running.{ran_more}
+use Rattle.std.proofs.Common.{◌≡◌, ◌∙◌, ap, sym, arith, Some}
+use Rattle.user_spec.specs.Instruction.{Core, one_instruction}
+use Rattle.user_ctx.specs.Stopping.{core}
+use Rattle.user_ctx.proofs.Running.{ran_more, stays}
 use Rattle.user_ctx.proofs.steps.run_known.Goals as goal
 
 pub loop-i-preserved : goal.loop-i-preserved
@@ -7,3 +10,15 @@ loop-i-preserved c = record {
   went = ran_more c.loop-i.i _ _ _ c.loop-i.invariant.went c.in-Done.ensures.is;
   known = c.step_known.ensures.known;
 }
+
+pub returns-in_default : goal.returns-in_default
+returns-in_default c =
+    let same : core c.step_known.new.pc c.step_known.new.x c.step_known.new.pages ≡ core c.loop-i.at c.loop-i.x c.loop-i.pages = stays c.step_known.result _ _ c.step_known.ensures.is c.in_default.not-Done in
+    record {
+      zero = c.step_known.ensures.zero;
+      most = omega arith;
+      went = c.loop-i.invariant.went ∙ ap (λ (x : Core). Some x) (sym same);
+      whole = λ e. absurd (c.in_default.not-Done e);
+      short = λ _. omega arith;
+      stop = λ _. ap one_instruction same ∙ c.step_known.ensures.is;
+    }

@@ -2,8 +2,8 @@ use Rattle.std.proofs.Common.{arith}
 use Rattle.fd_table.proofs.HeldLemmas.{slot_here, held_there, few_holders, lowest_read, none_free, process_there, dup_done}
 use Rattle.fd_table.proofs.fds.Fds.dup.Goals as goal
 
-pub returns-then-new-ge16-clause-fd : goal.returns-then-new-ge16-clause-fd
-returns-then-new-ge16-clause-fd c =
+pub returns-then-new-ge-DESCRIPTORS-clause-fd : goal.returns-then-new-ge-DESCRIPTORS-clause-fd
+returns-then-new-ge-DESCRIPTORS-clause-fd c =
     let here = slot_here c.deref.result.now c.self.inside.processes.items c.args.pid c.args.fd c.unwrap-id.result c.slot.result c.slot.ensures c.deref.ensures.value c.unwrap-id.ensures in
     let lowest = lowest_read c.deref-2.result.now c.self.inside.processes.items c.args.pid c.lowest_free_of-new.result c.lowest_free_of-new.ensures c.deref-2.ensures.value in
     rw (← c.self.view_is) (none_free c.self.inside.descriptions c.self.inside.processes.items c.args.pid c.lowest_free_of-new.result c.self.invariant (process_there c.self.inside.processes.items c.args.pid c.args.fd c.unwrap-id.result here) lowest (omega arith))

@@ -1,6 +1,7 @@
 use Rattle.std.proofs.Common.{◌≡◌, true, length, ap, sym, ◌∙◌, arith}
 use Rattle.home_kernel.proofs.Growing.{launched_kernel, has_room_live, has_room_pids}
-use Rattle.home_kernel.specs.Serving.{kernel_of, has_room}
+use Rattle.kernel_spec.specs.Kernel.{has_room}
+use Rattle.home_kernel.specs.Serving.{kernel_of}
 use Rattle.home_kernel.proofs.kernel.Kernel.launch.Goals as goal
 
 pub invariant_of-self-2 : goal.invariant_of-self-2

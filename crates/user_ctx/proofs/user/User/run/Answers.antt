@@ -1,7 +1,7 @@
 use Rattle.std.proofs.Common.{arith, refl, ◌≡◌, ◌≢◌, ◌+◌, ◌-◌, ◌<◌, ◌≤◌}
 use Rattle.user_ctx.specs.Stopping.{EndsAs}
-use Rattle.user_ctx.proofs.Walks.{walked_on, walked_one, walked_stop, walked_whole, stopped}
-use Rattle.user_ctx.specs.declared.stop.Stop.TheVariants as stop
+use Rattle.user_ctx.proofs.Walks.{walked_on, walked_step, walked_stop, walked_whole, stopped}
+use Rattle.user_spec.specs.declared.outcome.Stop.TheVariants as stop
 use Rattle.user_ctx.proofs.user.User.run.Goals as goal
 
 pub returns-in-Done-clause-went : goal.returns-in-Done-clause-went
@@ -34,5 +34,5 @@ loop-i-preserved c =
     record {
       bound = omega arith;
       passed = omega arith;
-      walk = walked_one c.args.k _ _ _ _ lt (walked_on c.args.k c.loop-i.went _ _ _ _ (omega arith) c.loop-i.invariant.walk c.instructions-more.ensures.went) c.in-Went.ensures;
+      walk = walked_step c.args.k _ _ _ _ lt (walked_on c.args.k c.loop-i.went _ _ _ _ (omega arith) c.loop-i.invariant.walk c.instructions-more.ensures.went) c.in-Went.ensures;
     }

@@ -1,4 +1,4 @@
-use Rattle.user_ctx.proofs.Walks.{one_step}
+use Rattle.user_ctx.proofs.Single.{one_step}
 use Rattle.user_ctx.proofs.user.User.step.Goals as goal
 
 pub returns : goal.returns

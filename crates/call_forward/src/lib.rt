@@ -1,0 +1,12 @@
+// What the nodes of a cluster send to one another: messages, letters and answers, and how a process stands where it is hosted.
+#![tactic(auto)]
+
+mod letter;
+mod message;
+mod state;
+#[cfg(test)]
+mod tests;
+
+pub use letter::{Letter, Mail};
+pub use message::{Done, Message};
+pub use state::State;

@@ -1,0 +1,5 @@
+pub mod Links
+pub mod Meetings
+pub mod Sides
+pub mod Rings
+pub mod Lends

@@ -1,0 +1,2 @@
+pub mod Ushers
+pub mod Kept
