@@ -82,7 +82,7 @@ fn main(rt: HostRuntime) -> io::Result<()> {
     }
     if name.as_str() == "events" {
         if let Ok(run) = run_of(alloc, count) {
-            let mut out = StdSink::new(BufWriter::new(alloc, io::stdout(&rt))?);
+            let mut out = StdSink::new(BufWriter::new(alloc, rt.stdout())?);
             let _ = print_report(alloc, &run, &Script::new(alloc), true, &mut out);
         }
         return Ok(());
