@@ -83,11 +83,106 @@ const COPY: [u32; 16] = [
     0x00000073, // ecall
 ];
 
+/// Loads, adds, stores and mixes the same words, as many times 4,096 as the rounds say.
+const MEM: [u32; 12] = [
+    0x000002B7, // lui x5, 0
+    0x00020437, // lui x8, 0x20
+    0x00042E03, // lw x28, 0(x8)
+    0x01CE8EB3, // add x29, x29, x28
+    0x01D42223, // sw x29, 4(x8)
+    0x00544F03, // lbu x30, 5(x8)
+    0x01EFCFB3, // xor x31, x31, x30
+    0xFFF28293, // addi x5, x5, -1
+    0xFE0294E3, // bne x5, x0, L
+    0x000E8513, // addi x10, x29, 0
+    0x00100893, // addi x17, x0, 1
+    0x00000073, // ecall
+];
+
+/// The same with its data in the page of the code.
+const OWN: [u32; 13] = [
+    0x000002B7, // lui x5, 0
+    0x00010437, // lui x8, 0x10
+    0x40040413, // addi x8, x8, 0x400
+    0x00042E03, // lw x28, 0(x8)
+    0x01CE8EB3, // add x29, x29, x28
+    0x01D42223, // sw x29, 4(x8)
+    0x00544F03, // lbu x30, 5(x8)
+    0x01EFCFB3, // xor x31, x31, x30
+    0xFFF28293, // addi x5, x5, -1
+    0xFE0294E3, // bne x5, x0, L
+    0x000E8513, // addi x10, x29, 0
+    0x00100893, // addi x17, x0, 1
+    0x00000073, // ecall
+];
+
+/// The twelfth Fibonacci number by calls, in each round anew.
+const CALLS: [u32; 25] = [
+    0x00000937, // lui x18, 0
+    0x00C95913, // srli x18, x18, 12
+    0x00026137, // lui x2, 0x26
+    0x00C00513, // addi x10, x0, 12
+    0x014000EF, // jal x1, fib
+    0xFFF90913, // addi x18, x18, -1
+    0xFE091AE3, // bne x18, x0, outer
+    0x00100893, // addi x17, x0, 1
+    0x00000073, // ecall
+    0x00252293, // slti x5, x10, 2
+    0x02029C63, // bne x5, x0, leaf
+    0xFF010113, // addi x2, x2, -16
+    0x00112023, // sw x1, 0(x2)
+    0x00A12223, // sw x10, 4(x2)
+    0xFFF50513, // addi x10, x10, -1
+    0xFE9FF0EF, // jal x1, fib
+    0x00A12423, // sw x10, 8(x2)
+    0x00412503, // lw x10, 4(x2)
+    0xFFE50513, // addi x10, x10, -2
+    0xFD9FF0EF, // jal x1, fib
+    0x00812283, // lw x5, 8(x2)
+    0x00550533, // add x10, x10, x5
+    0x00012083, // lw x1, 0(x2)
+    0x01010113, // addi x2, x2, 16
+    0x00008067, // jalr x0, 0(x1)
+];
+
+/// Calls a function, as many times 4,096 as the rounds say.
+const FAR: [u32; 9] = [
+    0x000002B7, // lui x5, 0
+    0x018000EF, // jal x1, f
+    0xFFF28293, // addi x5, x5, -1
+    0xFE029CE3, // bne x5, x0, L
+    0x000E8513, // addi x10, x29, 0
+    0x00100893, // addi x17, x0, 1
+    0x00000073, // ecall
+    0x001E8E93, // addi x29, x29, 1
+    0x00008067, // jalr x0, 0(x1)
+];
+
 fn program(name: &str) -> &'static [u32] {
     match name {
         "sieve" => &SIEVE,
         "copy" => &COPY,
+        "mem" => &MEM,
+        "own" => &OWN,
+        "calls" => &CALLS,
+        "far" => &FAR,
         _ => &LOOP,
+    }
+}
+
+/// Where a program begins: the function that `far` calls is the first of the second page.
+fn start(name: &str) -> u32 {
+    match name {
+        "far" => START + 4096 - 28,
+        _ => START,
+    }
+}
+
+/// So many steps are asked for at once.
+fn most(name: &str) -> u32 {
+    match name {
+        "short" => 1000,
+        _ => 0x400_0000,
     }
 }
 
@@ -114,13 +209,14 @@ fn map(pages: &mut Pages, page: u32, rights: u8)
     }
 }
 
-fn loaded(alloc: Global, words: &[u32], rounds: u32) -> Pages {
+fn loaded(alloc: Global, start: u32, words: &[u32], rounds: u32) -> Pages {
     let mut pages = Pages::new(alloc);
-    map(&mut pages, START / 4096, 5);
+    map(&mut pages, START / 4096, 7);
+    map(&mut pages, START / 4096 + 1, 7);
     for page in 0..6 {
         map(&mut pages, DATA / 4096 + page, 6);
     }
-    let mut at = START;
+    let mut at = start;
     for i in 0..words.len() {
         pages.write(at, &word_at(words, i, rounds).to_le_bytes());
         at = at.wrapping_add(4);
@@ -151,12 +247,28 @@ fn main(rt: HostRuntime) -> io::Result<()> {
         }
         return Ok(());
     }
-    let mut user = User::new(START, 0, 0, 0, loaded(rt.alloc(), words, rounds), DATA);
-    match user.run(0x400_0000) {
-        (_, Stop::AtCall) => match user.request(rt.alloc()) {
-            Ok(request) => println!(rt; "{} steps, answer {}", user.count(), request.args[0]),
-            Err(_) => println!(rt; "out of memory"),
-        },
-        _ => println!(rt; "{} steps, no answer", user.count()),
+    let first = start(name.as_str());
+    let pages = loaded(rt.alloc(), first, words, rounds);
+    let mut user = User::new(first, 0, 0, 0, pages, DATA);
+    match answer(rt.alloc(), &mut user, most(name.as_str())) {
+        Some(answer) => println!(rt; "{} steps, answer {answer}", user.count()),
+        None => println!(rt; "{} steps, no answer", user.count()),
     }
+}
+
+/// What a program has in a0 at its exit, where so many steps are asked for at once.
+fn answer(alloc: Global, user: &mut User, most: u32) -> Option<u32> {
+    for _ in 0..0x2_0000u32 {
+        match user.run(most) {
+            (_, Stop::Went) => {}
+            (_, Stop::AtCall) => {
+                return match user.request(alloc) {
+                    Ok(request) => Some(request.args[0]),
+                    Err(_) => None,
+                };
+            }
+            _ => return None,
+        }
+    }
+    None
 }

@@ -19,8 +19,10 @@ fn pages_are_kept(rt: HostRuntime) -> Result<(), Fail> {
     assert_eq!(rt; ask(&rt, &mut reserve, 2, 11), denied);
     assert_eq!(rt; ask(&rt, &mut reserve, 2, 10), Decision::Allow);
     assert_eq!(rt; (reserve.len(), reserve.pages()), (2, 30));
-    assert!(rt; reserve.land(1) && !reserve.land(1));
-    assert!(rt; reserve.has(2) && !reserve.has(1));
+    let landed = (reserve.land(1), reserve.land(1));
+    assert_eq!(rt; landed, (true, false));
+    let kept = (reserve.has(1), reserve.has(2));
+    assert_eq!(rt; kept, (false, true));
     assert_eq!(rt; (reserve.len(), reserve.pages()), (1, 10));
     Ok(())
 }

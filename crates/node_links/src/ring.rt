@@ -42,10 +42,7 @@ impl Carrier for RingCarrier {
     ghost total = { λ c. c.count };
 
     fn put(&mut self, letter: Letter) -> Option<Letter> {
-        match self.out.put(letter) {
-            Some(back) => Some(back),
-            None => None,
-        }
+        self.out.put(letter)
     }
 
     fn take(&mut self) -> Option<Letter> {

@@ -40,6 +40,24 @@ fn a_full_link(rt: HostRuntime) -> Result<(), Fail> {
     Ok(())
 }
 
+/// Two carriers of a pair meet with a letter between them, and one towards itself with none.
+#[test]
+fn carriers_meet(rt: HostRuntime) -> Result<(), Fail> {
+    let (mut out, other_back) = link(rt.alloc(), 2)?;
+    let (other_out, back) = link(rt.alloc(), 2)?;
+    assert_eq!(rt; told(out.put(letter(5))), None);
+    let mut one = RingCarrier::new(out, back);
+    let mut two = RingCarrier::new(other_out, other_back);
+    assert_eq!(rt; one.meet(&mut two)?, false);
+    two.ready()?;
+    assert_eq!(rt; told(two.take()), Some(5));
+    assert_eq!(rt; (one.taken(), two.taken()), (0, 1));
+    let (out, back) = link(rt.alloc(), 2)?;
+    let mut own = RingCarrier::new(out, back);
+    assert_eq!(rt; own.meet_own()?, true);
+    Ok(())
+}
+
 /// The node that the carrier at a place of a side leads to.
 fn node_at(side: &Side<RingCarrier>, at: usize) -> Option<u8> {
     match side.get(at) {

@@ -3,16 +3,16 @@ use Rattle.std.proofs.Common.{◌≡◌, ℕ, zero, suc, ◌+◌, ◌<◌, ◌�
 use Rattle.std.specs.Prelude.{nat_lt}
 use Rattle.node_event.specs.declared.script.Order.{Order}
 use Rattle.node_event.specs.declared.script.Order.TheVariants as order
-use Rattle.run_tokens.specs.Ops.{Ops, Sound, IsMove, is_child}
-use Rattle.run_tokens.specs.Deeds.{ForLine, Chosen, Input, Text, Finish, Nothing, Deed, Run, Kill, Bid, Unsent, Other, Steps, Sent, Heed, Held, Served, Got, Poked, Begin, Keep, Missed, Again, Allows, Denies, Depart, Stay, Land, Told, Refused, Closed, Gossips, Strange, Noted, pid_of, order_at}
-use Rattle.run_tokens.specs.Notes.{Believed, Turn}
-use Rattle.run_tokens.specs.Spots.{Spot, Nowhere}
-use Rattle.run_tokens.specs.Does.{Does}
-use Rattle.run_tokens.specs.Needs.{Names, Needs}
-use Rattle.run_tokens.specs.Cluster.{World, events}
-use Rattle.run_tokens.proofs.Talk.{numbers_same}
-use Rattle.run_tokens.proofs.Quiet.{child_so, home_so}
-use Rattle.run_tokens.proofs.Stand.{Stands, Step, Path, names_at}
+use Rattle.protocol.specs.Ops.{Ops, Sound, IsMove, is_child}
+use Rattle.protocol.specs.Deeds.{ForLine, Chosen, Input, Text, Finish, Nothing, Deed, Run, Kill, Bid, Unsent, Other, Steps, Sent, Heed, Held, Served, Got, Poked, Begin, Keep, Missed, Again, Allows, Denies, Depart, Stay, Land, Told, Refused, Closed, Gossips, Strange, Noted, pid_of, order_at}
+use Rattle.protocol.specs.Notes.{Believed, Turn}
+use Rattle.protocol.specs.Spots.{Spot, Nowhere}
+use Rattle.protocol.specs.Does.{Does}
+use Rattle.protocol.specs.Needs.{Names, Needs}
+use Rattle.protocol.specs.Cluster.{World, events}
+use Rattle.protocol.proofs.Talk.{numbers_same}
+use Rattle.protocol.proofs.Quiet.{child_so, home_so}
+use Rattle.protocol.proofs.Stand.{Stands, Step, Path, names_at}
 use Rattle.run_laws.specs.Machine.{MachineState}
 use Rattle.run_laws.specs.Schedule.{machine_at, With}
 use Rattle.run_laws.specs.Facts.{Node, facts}
@@ -27,7 +27,7 @@ use Rattle.run_laws.proofs.Reports.{path_reports, heard}
 use Rattle.run_laws.proofs.News.{path_news}
 use Rattle.run_laws.proofs.Plays.{at_replay, with_some}
 use Rattle.run_laws.proofs.Played.{Agrees, path_played}
-use Rattle.run_tokens.specs.Does.{Feeds, Ordered}
+use Rattle.protocol.specs.Does.{Feeds, Ordered}
 use Rattle.run_laws.proofs.Reports.{NotYet}
 use Rattle.run_laws.proofs.Belief.{NewsLaw as Told_news, NewsEver}
 use Rattle.run_laws.proofs.BestTold.{never_told, BestIs, best_place, best_hops, better_is}

@@ -1,12 +1,12 @@
 -- A node decides on a process that asks it, in every run.
 use Rattle.std.proofs.Common.{◌≡◌, ℕ, List, [], ◌∷◌, refl, ap, ◌∙◌}
-use Rattle.run_tokens.specs.Ops.{Ops, Sound}
-use Rattle.run_tokens.specs.Deeds.{Deed, Run, Kill, Bid, Unsent, Other, Steps, Sent, Heed, Held, Served, Got, Poked, Begin, Keep, Missed, Again, Allows, Denies, Depart, Stay, Land, Told, Refused, Closed, Gossips, Strange, pid_of}
-use Rattle.run_tokens.specs.Notes.{Turn, Local}
-use Rattle.run_tokens.specs.Spots.{Spot, Asks}
-use Rattle.run_tokens.specs.Needs.{Needs}
-use Rattle.run_tokens.specs.Cluster.{World, events}
-use Rattle.run_tokens.proofs.Stand.{Path}
+use Rattle.protocol.specs.Ops.{Ops, Sound}
+use Rattle.protocol.specs.Deeds.{Deed, Run, Kill, Bid, Unsent, Other, Steps, Sent, Heed, Held, Served, Got, Poked, Begin, Keep, Missed, Again, Allows, Denies, Depart, Stay, Land, Told, Refused, Closed, Gossips, Strange, pid_of}
+use Rattle.protocol.specs.Notes.{Turn, Local}
+use Rattle.protocol.specs.Spots.{Spot, Asks}
+use Rattle.protocol.specs.Needs.{Needs}
+use Rattle.protocol.specs.Cluster.{World, events}
+use Rattle.protocol.proofs.Stand.{Path}
 use Rattle.run_laws.specs.Facts.{Facts, facts}
 use Rattle.run_laws.specs.AskLaw.{AsksNode, AskAt, AskLaw}
 use Rattle.run_laws.proofs.Facts.{facts_of, path_tells}

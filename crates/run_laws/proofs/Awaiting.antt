@@ -1,10 +1,10 @@
 -- A letter lies on a link where one was posted that was not taken.
 use Rattle.std.proofs.Common.{◌≡◌, ℕ, List, [], ◌∷◌, ◌++◌, sym, ap, ◌∙◌, append_assoc}
 use Rattle.std.proofs.lemmas.List.{append-nil, append_cancel_left}
-use Rattle.run_tokens.specs.Ops.{Ops}
-use Rattle.run_tokens.specs.Notes.{Post, Turn}
-use Rattle.run_tokens.specs.Cluster.{World, Reached, for_link, at_front}
-use Rattle.run_tokens.specs.Rests.{Awaits}
+use Rattle.protocol.specs.Ops.{Ops}
+use Rattle.protocol.specs.Notes.{Post, Turn}
+use Rattle.protocol.specs.Cluster.{World, Reached, for_link, at_front}
+use Rattle.protocol.specs.Rests.{Awaits}
 use Rattle.run_laws.specs.Carried.{posted_on, taken_on}
 use Rattle.run_laws.specs.Due.{Same, Untaken}
 

@@ -1,8 +1,8 @@
 -- What home believes of a process, and what it had been told when it last sent a line's Go, as relations on the events.
 use Rattle.std.proofs.Common.{◌≡◌, ℕ, ◌<◌, ◌≤◌, ◌==◌, ◌⊎◌, Bool, true, false, List, ◌∷◌, []}
-use Rattle.run_tokens.specs.Ops.{is_child}
-use Rattle.run_tokens.specs.Deeds.{Deed, Run, Kill, Bid, Unsent, Other, Steps, Sent, Heed, Held, Served, Got, Poked, Begin, Keep, Missed, Again, Allows, Denies, Depart, Stay, Land, Told, Refused, Closed, Gossips, Strange, Noted}
-use Rattle.run_tokens.specs.Notes.{Believed}
+use Rattle.protocol.specs.Ops.{is_child}
+use Rattle.protocol.specs.Deeds.{Deed, Run, Kill, Bid, Unsent, Other, Steps, Sent, Heed, Held, Served, Got, Poked, Begin, Keep, Missed, Again, Allows, Denies, Depart, Stay, Land, Told, Refused, Closed, Gossips, Strange, Noted}
+use Rattle.protocol.specs.Notes.{Believed}
 use Rattle.run_laws.specs.Facts.{Node, facts}
 use Rattle.run_laws.specs.Outcomes.{outcomes}
 

@@ -1,13 +1,13 @@
 -- A list of turns that its nodes and links allow is a run of the whole cluster.
 use Rattle.std.proofs.Common.{◌≡◌, ℕ, ◌==◌, Bool, true, false, cond, List, [], ◌∷◌, ◌++◌, refl, sym, ap, ◌∙◌, append_assoc}
 use Rattle.std.proofs.lemmas.List.{append_cancel_left}
-use Rattle.run_tokens.specs.Notes.{Local}
-use Rattle.run_tokens.specs.Does.{Makes}
-use Rattle.run_tokens.specs.Cluster.{World, Goes, Reached, for_link, at_front}
+use Rattle.protocol.specs.Notes.{Local}
+use Rattle.protocol.specs.Does.{Makes}
+use Rattle.protocol.specs.Cluster.{World, Goes, Reached, for_link, at_front}
 use Rattle.run_laws.specs.Carried.{Begins, posted_on, taken_on, Carried, own, Alone}
-use Rattle.run_tokens.proofs.Talk.{same_numbers, other_numbers}
-use Rattle.run_tokens.specs.Ops.{Ops}
-use Rattle.run_tokens.specs.Notes.{Post, Turn}
+use Rattle.protocol.proofs.Talk.{same_numbers, other_numbers}
+use Rattle.protocol.specs.Ops.{Ops}
+use Rattle.protocol.specs.Notes.{Post, Turn}
 
 module _ (O : Ops) where
   -- what lies on the links after these turns

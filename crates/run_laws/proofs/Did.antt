@@ -3,20 +3,20 @@ use Rattle.std.proofs.Common.{◌≡◌, ◌≢◌, ℕ, ◌<◌, ◌≤◌, ◌
 use Rattle.std.proofs.lemmas.List.{append-nil}
 use Rattle.std.proofs.lemmas.Bool.Decides.{leb_tells}
 use lib.Dec.{leb}
-use Rattle.run_tokens.specs.Cluster.{events}
-use Rattle.run_tokens.specs.Notes.{Local}
-use Rattle.run_tokens.specs.Cluster.{World, Goes, Reached, for_link, at_front}
+use Rattle.protocol.specs.Cluster.{events}
+use Rattle.protocol.specs.Notes.{Local}
+use Rattle.protocol.specs.Cluster.{World, Goes, Reached, for_link, at_front}
 use Rattle.run_laws.specs.Carried.{IsUsual, NoneStrange, Carried, CarriedRun, posted_on, taken_on, own_events, Alone, Marked, Sorted, Did, Each, grown, recorded, shown}
 use Rattle.run_laws.specs.Whole.{Holds}
-use Rattle.run_tokens.proofs.Talk.{same_numbers, numbers_same}
+use Rattle.protocol.proofs.Talk.{same_numbers, numbers_same}
 use Rattle.run_laws.proofs.Weave.{marked, takes_elsewhere, posts_elsewhere, did_run}
 use Rattle.run_laws.proofs.Merge.{run_sorted, All_joined, join_all}
 use Rattle.run_laws.proofs.Awaiting.{lies}
 use Rattle.run_laws.proofs.Whole.{laws_of_runs}
 use Rattle.run_laws.specs.ScriptLaw.{AtHome, ScriptLaw}
-use Rattle.run_tokens.specs.Ops.{Ops, Sound}
-use Rattle.run_tokens.specs.Deeds.{Deed, Run, Kill, Bid, Unsent, Other, Steps, Sent, Heed, Held, Served, Got, Poked, Begin, Keep, Missed, Again, Allows, Denies, Depart, Stay, Land, Told, Refused, Closed, Gossips, Strange, Noted}
-use Rattle.run_tokens.specs.Notes.{Post, Turn}
+use Rattle.protocol.specs.Ops.{Ops, Sound}
+use Rattle.protocol.specs.Deeds.{Deed, Run, Kill, Bid, Unsent, Other, Steps, Sent, Heed, Held, Served, Got, Poked, Begin, Keep, Missed, Again, Allows, Denies, Depart, Stay, Land, Told, Refused, Closed, Gossips, Strange, Noted}
+use Rattle.protocol.specs.Notes.{Post, Turn}
 
 usual_from : (what : Deed) (n : ℕ) → AtHome what n → IsUsual what
 usual_from (Run line i p) n l = tt

@@ -4,15 +4,15 @@ use Rattle.std.specs.Prelude.{ℤ, pos, slice_get}
 use Rattle.call_table.specs.declared.process.End.TheVariants as end
 use Rattle.node_event.specs.declared.script.Order.TheVariants as order
 use Rattle.node_event.specs.declared.script.ScriptLine.{ScriptLine}
-use Rattle.run_tokens.specs.Ops.{Ops, Sound, Acted}
-use Rattle.run_tokens.specs.Gossip.{Entry, no_gossip, one_step, told_places, gossip_after}
-use Rattle.run_tokens.specs.Deeds.{order_at, Did, Run, Bid, Steps, Sent, Held, Served, Got, Keep, Gossips}
-use Rattle.run_tokens.specs.Notes.{Done, Call, Reply, Go, Half, Slot, Post, letter, Turn, Body, fresh, context, Running, Waiting, Local, no_progress, served_one}
-use Rattle.run_tokens.specs.Home.{First, last, done_of, returned}
-use Rattle.run_tokens.specs.Does.{slot_pages, hosts, holds, same, got_context}
-use Rattle.run_tokens.specs.Cluster.{World, Goes, Starts, Reached, events}
-use Rattle.run_tokens.specs.Rests.{Kind, Applies, AllRest}
-use Rattle.run_tokens.proofs.Process.{cond_off, cond_same}
+use Rattle.protocol.specs.Ops.{Ops, Sound, Acted}
+use Rattle.protocol.specs.Gossip.{Entry, no_gossip, one_step, told_places, gossip_after}
+use Rattle.protocol.specs.Deeds.{order_at, Did, Run, Bid, Steps, Sent, Held, Served, Got, Keep, Gossips}
+use Rattle.protocol.specs.Notes.{Done, Call, Reply, Go, Half, Slot, Post, letter, Turn, Body, fresh, context, Running, Waiting, Local, no_progress, served_one}
+use Rattle.protocol.specs.Home.{First, last, done_of, returned}
+use Rattle.protocol.specs.Does.{slot_pages, hosts, holds, same, got_context}
+use Rattle.protocol.specs.Cluster.{World, Goes, Starts, Reached, events}
+use Rattle.protocol.specs.Rests.{Kind, Applies, AllRest}
+use Rattle.protocol.proofs.Process.{cond_off, cond_same}
 use Rattle.run_laws.specs.Machine.{MachineState}
 use Rattle.run_laws.specs.Due.{DueAs}
 use Rattle.run_laws.specs.Ending.{Ending}
@@ -22,7 +22,7 @@ use Rattle.run_laws.specs.EndStories.{reader_script, reader, keeper_script, keep
 use Rattle.run_laws.proofs.SmallMachine.{sound_of, sound}
 use Rattle.run_laws.proofs.Ending.{end_of_runs}
 use Rattle.run_laws.proofs.EndStories.{hello_end, hello_nothing, reader_end, reader_nothing, keeper_end, keeper_nothing}
-use Rattle.run_tokens.proofs.Progress.{itself}
+use Rattle.protocol.proofs.Progress.{itself}
 
 -- a script of one launch asks for no move
 one_line : (k : ℕ) (s : ScriptLine) → slice_get reader_script k ≡ Some s → order_at s.line reader_script ≡ Some s.order
@@ -49,7 +49,7 @@ one_target l p to e = go (1 == l) (2 == l) e
     go false true x = let same : 1 ≡ to = cc in omega (arith, same)
     go false false x = absurd cc
 
-hello_sound : Sound hello
+pub hello_sound : Sound hello
 hello_sound = sound_of 1 no_choice (omega arith) (λ s c e. absurd cc) hello_script (program (Step ∷ Step ∷ Step ∷ Step ∷ Step ∷ Calls (WriteCall 3) ∷ Step ∷ Step ∷ Calls (ExitCall 0) ∷ []) ∷ []) one_line no_target
 
 reader_sound : Sound reader
@@ -72,7 +72,7 @@ module _ (O : Ops) where
   starts : (k : O.Kernel) → k ≡ O.new_kernel → Starts O (alone k (fresh_node k) [])
   starts k e = record { nodes = λ n. go n (n == 0); links = λ a b. cond_same ((a == 0) && (b == 0)) [] }
     where
-      go : (n : ℕ) (b : Bool) → Rattle.run_tokens.specs.Cluster.Fresh O n (cond b (fresh_node k) (fresh_node k))
+      go : (n : ℕ) (b : Bool) → Rattle.protocol.specs.Cluster.Fresh O n (cond b (fresh_node k) (fresh_node k))
       go n true = record { clock = refl; slots = λ p. refl; gossip = refl; home = λ x. record { kernel = e; progress = refl; believed = λ p. refl } }
       go n false = record { clock = refl; slots = λ p. refl; gossip = refl; home = λ x. record { kernel = e; progress = refl; believed = λ p. refl } }
 
@@ -83,10 +83,10 @@ module _ (O : Ops) where
   pub pair_starts : (k : O.Kernel) → k ≡ O.new_kernel → Starts O (pair k (fresh_node k) (fresh_node k) 0 0 [])
   pair_starts k e = record { nodes = λ n. go n (n == 0) (n == 1); links = λ a b. cond_same ((a == 0) && (b == 0)) [] }
     where
-      fresh_is : (n : ℕ) → Rattle.run_tokens.specs.Cluster.Fresh O n (fresh_node k)
+      fresh_is : (n : ℕ) → Rattle.protocol.specs.Cluster.Fresh O n (fresh_node k)
       fresh_is n = record { clock = refl; slots = λ p. refl; gossip = refl; home = λ x. record { kernel = e; progress = refl; believed = λ p. refl } }
 
-      go : (n : ℕ) (b c : Bool) → Rattle.run_tokens.specs.Cluster.Fresh O n (cond b (fresh_node k) (cond c (fresh_node k) (fresh_node k)))
+      go : (n : ℕ) (b c : Bool) → Rattle.protocol.specs.Cluster.Fresh O n (cond b (fresh_node k) (cond c (fresh_node k) (fresh_node k)))
       go n true c = fresh_is n
       go n false true = fresh_is n
       go n false false = fresh_is n

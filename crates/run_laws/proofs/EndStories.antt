@@ -1,12 +1,12 @@
 -- The worked ends: which runs are done, which are stuck, and where more is due.
 use Rattle.std.proofs.Common.{◌≡◌, ◌≢◌, ◌<◌, ◌≤◌, ℕ, zero, suc, ◌==◌, ◌⊎◌, inl, inr, Bool, true, false, Option, Some, None, [], ◌∷◌, refl, sym, ap, ◌∙◌, subst, arith}
-use Rattle.run_tokens.specs.Ops.{Ops}
-use Rattle.run_tokens.specs.Rests.{Retry, RunOn, NextLine, SendHalf}
-use Rattle.run_tokens.proofs.Talk.{numbers_same}
+use Rattle.protocol.specs.Ops.{Ops}
+use Rattle.protocol.specs.Rests.{Retry, RunOn, NextLine, SendHalf}
+use Rattle.protocol.proofs.Talk.{numbers_same}
 use Rattle.run_laws.specs.Machine.{MachineState, empty}
 use Rattle.run_laws.specs.Schedule.{machine_at}
 use Rattle.run_laws.specs.Facts.{facts, is_held}
-use Rattle.run_tokens.specs.Does.{HalfDueTo}
+use Rattle.protocol.specs.Does.{HalfDueTo}
 use Rattle.run_laws.specs.Due.{CanGoOn}
 use Rattle.run_laws.specs.Loads.{IsFree}
 use Rattle.run_laws.specs.GossipLaw.{HalfIsDue}

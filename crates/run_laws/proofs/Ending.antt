@@ -1,10 +1,10 @@
 -- How every run ends.
 use Rattle.std.proofs.Common.{◌≡◌, ℕ, List, ◌∙◌, subst}
-use Rattle.run_tokens.specs.Ops.{Ops, Sound}
-use Rattle.run_tokens.specs.Deeds.{Noted}
-use Rattle.run_tokens.specs.Notes.{Turn}
-use Rattle.run_tokens.specs.Cluster.{World, Reached, events}
-use Rattle.run_tokens.proofs.Stand.{reached_stands}
+use Rattle.protocol.specs.Ops.{Ops, Sound}
+use Rattle.protocol.specs.Deeds.{Noted}
+use Rattle.protocol.specs.Notes.{Turn}
+use Rattle.protocol.specs.Cluster.{World, Reached, events}
+use Rattle.protocol.proofs.Stand.{reached_stands}
 use Rattle.run_laws.specs.Ending.{Ending}
 use Rattle.run_laws.specs.Carried.{Did, Sorted, own_events, shown}
 use Rattle.run_laws.proofs.Did.{did_holds}

@@ -1,7 +1,7 @@
 -- The errand of a move line: where it is between its command and its outcome.
 use Rattle.std.proofs.Common.{ℕ, ◌==◌, Bool, false, Option, Some, None}
-use Rattle.run_tokens.specs.Ops.{Ops, is_child}
-use Rattle.run_tokens.specs.Notes.{Note, Call, Pause, Reply, Poke, Half, Go, NotHere, Ask, Allow, Deny, Move, Landed, NoMove, Way, way}
+use Rattle.protocol.specs.Ops.{Ops, is_child}
+use Rattle.protocol.specs.Notes.{Note, Call, Pause, Reply, Poke, Half, Go, NotHere, Ask, Allow, Deny, Move, Landed, NoMove, Way, way}
 
 -- The errand of a move line: where it is between its command and its outcome.
 pub data Errand : Type 0 where

@@ -3,18 +3,18 @@ use Rattle.std.proofs.Common.{◌≡◌, ◌≢◌, ℕ, ◌-◌, ◌≤◌, ◌
 use Rattle.std.specs.Prelude.{ℤ}
 use Rattle.std.proofs.lemmas.List.{append-nil}
 use Rattle.call_table.specs.declared.process.End.{End}
-use Rattle.run_tokens.specs.Ops.{Ops, Sound}
-use Rattle.run_tokens.specs.Gossip.{Entry, Gossip, one_step, Choice, told_places, gossip_after, Talk, Silent, Stepping, Talking, talk_of}
-use Rattle.run_tokens.specs.Deeds.{Manner, Did, Broke, Fell, Paused, ForLine, Chosen, Deed, Run, Kill, Bid, Unsent, Other, Steps, Sent, Heed, Held, Served, Got, Poked, Begin, Keep, Missed, Again, Allows, Denies, Depart, Stay, Land, Told, Refused, Closed, Gossips, Strange, pid_of}
-use Rattle.run_tokens.specs.Notes.{Note, Call, Pause, Reply, Poke, Half, Go, NotHere, Ask, Allow, Deny, Move, Landed, NoMove, Post, letter, Turn, Done, Body, Kept, Local, Believed}
-use Rattle.run_tokens.specs.Spots.{Spot}
-use Rattle.run_tokens.specs.Home.{after, pokes, line_closed}
-use Rattle.run_tokens.specs.Does.{Does, ServedBy, HalfDueTo, Talks, got_posts}
-use Rattle.run_tokens.specs.Cluster.{World, for_link, at_front, Goes, events}
-use Rattle.run_tokens.specs.Needs.{Needs}
-use Rattle.run_tokens.proofs.Talk.{numbers_same, numbers_other, same_numbers}
-use Rattle.run_tokens.proofs.Stand.{Stands, Path}
-use Rattle.run_tokens.proofs.Talking.{NotHalf, NoHalves, GossipBy, gossip_by}
+use Rattle.protocol.specs.Ops.{Ops, Sound}
+use Rattle.protocol.specs.Gossip.{Entry, Gossip, one_step, Choice, told_places, gossip_after, Talk, Silent, Stepping, Talking, talk_of}
+use Rattle.protocol.specs.Deeds.{Manner, Did, Broke, Fell, Paused, ForLine, Chosen, Deed, Run, Kill, Bid, Unsent, Other, Steps, Sent, Heed, Held, Served, Got, Poked, Begin, Keep, Missed, Again, Allows, Denies, Depart, Stay, Land, Told, Refused, Closed, Gossips, Strange, pid_of}
+use Rattle.protocol.specs.Notes.{Note, Call, Pause, Reply, Poke, Half, Go, NotHere, Ask, Allow, Deny, Move, Landed, NoMove, Post, letter, Turn, Done, Body, Kept, Local, Believed}
+use Rattle.protocol.specs.Spots.{Spot}
+use Rattle.protocol.specs.Home.{after, pokes, line_closed}
+use Rattle.protocol.specs.Does.{Does, ServedBy, HalfDueTo, Talks, got_posts}
+use Rattle.protocol.specs.Cluster.{World, for_link, at_front, Goes, events}
+use Rattle.protocol.specs.Needs.{Needs}
+use Rattle.protocol.proofs.Talk.{numbers_same, numbers_other, same_numbers}
+use Rattle.protocol.proofs.Stand.{Stands, Path}
+use Rattle.protocol.proofs.Talking.{NotHalf, NoHalves, GossipBy, gossip_by}
 use Rattle.run_laws.specs.Schedule.{machine_or, the_machine}
 use Rattle.run_laws.specs.Loads.{own_entry}
 use Rattle.run_laws.specs.Vectors.{Exchange, in_front, behind_it, exchanged_by, exchanged}

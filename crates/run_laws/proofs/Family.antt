@@ -1,9 +1,9 @@
 -- A family of letters of which at most one is under way, by a test: what a turn makes of it.
 use Rattle.std.proofs.Common.{◌≡◌, ℕ, ◌==◌, ◌&&◌, Bool, true, false, cond, Option, Some, None, List, [], ◌∷◌, ◌++◌, refl, sym, ap, ◌∙◌}
-use Rattle.run_tokens.specs.Ops.{Ops}
-use Rattle.run_tokens.specs.Notes.{Note, Post, Turn, Way, way}
-use Rattle.run_tokens.specs.Cluster.{World, for_link, at_front, Goes}
-use Rattle.run_tokens.proofs.Talk.{on_link, taken_whole}
+use Rattle.protocol.specs.Ops.{Ops}
+use Rattle.protocol.specs.Notes.{Note, Post, Turn, Way, way}
+use Rattle.protocol.specs.Cluster.{World, for_link, at_front, Goes}
+use Rattle.protocol.proofs.Talk.{on_link, taken_whole}
 
 module _ (O : Ops) (test : Note O → Bool) where
   abbrev pub words : List (Post O) → List (Note O)

@@ -1,15 +1,15 @@
 -- A run of one turn, to show that the steps of the cluster have members.
 use Rattle.std.proofs.Common.{◌==◌, cond, Some, None, [], ◌∷◌, refl, arith}
-use Rattle.run_tokens.specs.Gossip.{no_gossip}
-use Rattle.run_tokens.specs.Deeds.{Run}
-use Rattle.run_tokens.specs.Notes.{Running, Turn, context, fresh, Slot, Local, no_progress}
-use Rattle.run_tokens.specs.Does.{hosts}
-use Rattle.run_tokens.specs.Cluster.{World, Goes, Starts, Reached}
-use Rattle.run_tokens.specs.Odd.{Timed}
-use Rattle.run_tokens.proofs.Process.{cond_off}
+use Rattle.protocol.specs.Gossip.{no_gossip}
+use Rattle.protocol.specs.Deeds.{Run}
+use Rattle.protocol.specs.Notes.{Running, Turn, context, fresh, Slot, Local, no_progress}
+use Rattle.protocol.specs.Does.{hosts}
+use Rattle.protocol.specs.Cluster.{World, Goes, Starts, Reached}
+use Rattle.protocol.specs.Odd.{Timed}
+use Rattle.protocol.proofs.Process.{cond_off}
 use Rattle.run_laws.specs.SmallMachine.{new_table, grown}
 use Rattle.run_laws.specs.Histories.{mover}
-use Rattle.run_tokens.proofs.Progress.{itself}
+use Rattle.protocol.proofs.Progress.{itself}
 
 abbrev empty_slot : Slot mover
 empty_slot = record { context = None; reserve = None; call = None }

@@ -7,22 +7,22 @@ use Rattle.call_table.specs.declared.process.End.{End}
 use Rattle.node_event.specs.declared.script.Order.{Order}
 use Rattle.node_event.specs.declared.script.Order.TheVariants as order
 use Rattle.node_event.specs.declared.script.ScriptLine.{ScriptLine}
-use Rattle.run_tokens.specs.Ops.{Ops, Sound, Acted, typed, has_text}
-use Rattle.run_tokens.specs.Gossip.{Entry, Gossip, one_step, Choice, Movable, told_places, gossip_after}
-use Rattle.run_tokens.specs.Deeds.{Chosen, runs_before, feeds_before, Input, Text, Finish, Nothing, Manner, Did, Broke, Fell, Paused, Deed, Run, Kill, Bid, Unsent, Other, Steps, Sent, Heed, Held, Served, Got, Poked, Begin, Keep, Missed, Again, Allows, Denies, Depart, Stay, Land, Told, Refused, Closed, Gossips, Strange}
-use Rattle.run_tokens.specs.Notes.{Progress, SameProgress, served_one, is_some, Call, Pause, Reply, Go, Half, Ask, Asking, Post, letter, Turn, Body, context, fresh, Called, Running, Waiting, Slot, Local}
-use Rattle.run_tokens.specs.Spots.{Spot}
-use Rattle.run_tokens.specs.Home.{UnsentFor, First, Last, last, done_of, value_of, to_poke, both, pokes, born_at}
-use Rattle.run_tokens.specs.Does.{Does, ServedBy, EnabledHere, Ordered, Feeds, Makes, Quantum, InUse, Loaded, CanMove, NoneRuns, HalfDueTo, seen, Talks, hosts, holds, pokes_of}
-use Rattle.run_tokens.specs.Cluster.{World, for_link, Goes, events}
-use Rattle.run_tokens.specs.Rests.{Kind, Retry, RunOn, NextLine, SendHalf, Applies}
-use Rattle.run_tokens.proofs.Talk.{numbers_same, numbers_other}
-use Rattle.run_tokens.proofs.Process.{cond_here, cond_off, call_tells}
-use Rattle.run_tokens.proofs.Stand.{Stands, Path}
+use Rattle.protocol.specs.Ops.{Ops, Sound, Acted, typed, has_text}
+use Rattle.protocol.specs.Gossip.{Entry, Gossip, one_step, Choice, Movable, told_places, gossip_after}
+use Rattle.protocol.specs.Deeds.{Chosen, runs_before, feeds_before, Input, Text, Finish, Nothing, Manner, Did, Broke, Fell, Paused, Deed, Run, Kill, Bid, Unsent, Other, Steps, Sent, Heed, Held, Served, Got, Poked, Begin, Keep, Missed, Again, Allows, Denies, Depart, Stay, Land, Told, Refused, Closed, Gossips, Strange}
+use Rattle.protocol.specs.Notes.{Progress, SameProgress, served_one, is_some, Call, Pause, Reply, Go, Half, Ask, Asking, Post, letter, Turn, Body, context, fresh, Called, Running, Waiting, Slot, Local}
+use Rattle.protocol.specs.Spots.{Spot}
+use Rattle.protocol.specs.Home.{UnsentFor, First, Last, last, done_of, value_of, to_poke, both, pokes, born_at}
+use Rattle.protocol.specs.Does.{Does, ServedBy, EnabledHere, Ordered, Feeds, Makes, Quantum, InUse, Loaded, CanMove, NoneRuns, HalfDueTo, seen, Talks, hosts, holds, pokes_of}
+use Rattle.protocol.specs.Cluster.{World, for_link, Goes, events}
+use Rattle.protocol.specs.Rests.{Kind, Retry, RunOn, NextLine, SendHalf, Applies}
+use Rattle.protocol.proofs.Talk.{numbers_same, numbers_other}
+use Rattle.protocol.proofs.Process.{cond_here, cond_off, call_tells}
+use Rattle.protocol.proofs.Stand.{Stands, Path}
 use Rattle.run_laws.specs.Going.{Able}
 use Rattle.run_laws.proofs.Here.{can_run, loaded, in_use, can_move}
 use Rattle.run_laws.proofs.Sleeps.{Sleeps, Since, path_sleeps}
-use Rattle.run_tokens.proofs.Progress.{itself}
+use Rattle.protocol.proofs.Progress.{itself}
 
 module _ (O : Ops) (S : Sound O) where
   -- the least line that may come next is the one after the last that was carried out
@@ -208,14 +208,14 @@ module _ (O : Ops) (S : Sound O) where
 
       other_made : (o : Order) (input : Input) → Next o → has_text O input ≡ true → Feeds O input o → Made
       other_made o input x text suits = makes (Other line input) [] (record { clock = old.clock + 1; kernel = typed O input old.kernel; slots = old.slots; believed = old.believed; progress = further old.progress.launched; gossip = old.gossip }) refl
-          (record { home = home; text = text; kernel = refl; base = record { took = refl; posts = refl; slots = λ q. sym (Rattle.run_tokens.proofs.Process.cond_same (q == 0) (old.slots q)) }; gossip = refl; believed = λ q. refl; what = o; suits = suits; order = record { next = x.0; enabled = x.1; rises = higher; is = itself _ } })
+          (record { home = home; text = text; kernel = refl; base = record { took = refl; posts = refl; slots = λ q. sym (Rattle.protocol.proofs.Process.cond_same (q == 0) (old.slots q)) }; gossip = refl; believed = λ q. refl; what = o; suits = suits; order = record { next = x.0; enabled = x.1; rises = higher; is = itself _ } })
 
       move_made : (p to : ℕ) → Next (order.Move p to) → Made
       move_made p to x = by_live (O.live old.kernel p) refl
         where
           unsent : (never : Bool) → UnsentFor O never old.kernel p → Made
           unsent never why = makes (Unsent line p never) [] (record { clock = old.clock + 1; kernel = old.kernel; slots = old.slots; believed = old.believed; progress = further old.progress.launched; gossip = old.gossip }) refl
-              (record { home = home; why = why; base = record { took = refl; posts = refl; slots = λ q. sym (Rattle.run_tokens.proofs.Process.cond_same (q == p) (old.slots q)) }; kernel = refl; gossip = refl; believed = λ q. refl; to = to; order = record { next = x.0; enabled = x.1; rises = higher; is = itself _ } })
+              (record { home = home; why = why; base = record { took = refl; posts = refl; slots = λ q. sym (Rattle.protocol.proofs.Process.cond_same (q == p) (old.slots q)) }; kernel = refl; gossip = refl; believed = λ q. refl; to = to; order = record { next = x.0; enabled = x.1; rises = higher; is = itself _ } })
 
           by_given : O.live old.kernel p ≡ false → ((leb 1 p ≡ true) × (1 ≤ p)) ⊎ ((leb 1 p ≡ false) × (p < 1)) → ((leb p (O.count old.kernel) ≡ true) × (p ≤ O.count old.kernel)) ⊎ ((leb p (O.count old.kernel) ≡ false) × (O.count old.kernel < p)) → Made
           by_given dead (inl a) (inl b) = unsent false (record { given = (a.1, b.1); dead = dead })
@@ -224,7 +224,7 @@ module _ (O : Ops) (S : Sound O) where
 
           by_live : (b : Bool) → O.live old.kernel p ≡ b → Made
           by_live true e = makes (Bid line p to) (letter O 0 (old.believed p).place (old.clock + 1) (Go p to (old.believed p).hops line) ∷ []) (record { clock = old.clock + 1; kernel = old.kernel; slots = old.slots; believed = old.believed; progress = further old.progress.launched; gossip = old.gossip }) refl
-              (record { home = home; live = e; base = record { took = refl; posts = refl; slots = λ q. sym (Rattle.run_tokens.proofs.Process.cond_same (q == p) (old.slots q)) }; kernel = refl; gossip = refl; believed = λ q. refl; order = record { next = x.0; enabled = x.1; rises = higher; is = itself _ } })
+              (record { home = home; live = e; base = record { took = refl; posts = refl; slots = λ q. sym (Rattle.protocol.proofs.Process.cond_same (q == p) (old.slots q)) }; kernel = refl; gossip = refl; believed = λ q. refl; order = record { next = x.0; enabled = x.1; rises = higher; is = itself _ } })
           by_live false e = by_given e (leb_tells 1 p) (leb_tells p (O.count old.kernel))
 
       kill_made : (p s : ℕ) → Next (order.Kill p s) → Made
@@ -232,7 +232,7 @@ module _ (O : Ops) (S : Sound O) where
           let kernel : O.Kernel = O.raise old.kernel p s in
           let poked : List ℕ = both (to_poke O kernel old.slots (cond (O.hit old.kernel p s) (Some p) None)) None in
           makes (Kill line p s poked) (pokes O (old.clock + 1) old.believed poked) (record { clock = old.clock + 1; kernel = kernel; slots = old.slots; believed = old.believed; progress = further old.progress.launched; gossip = old.gossip }) refl
-          (record { home = home; signal_is = A.signal old.progress.done _ x.0 p s refl; kernel = refl; tells = refl; base = record { took = refl; posts = refl; slots = λ q. sym (Rattle.run_tokens.proofs.Process.cond_same (q == p) (old.slots q)) }; gossip = refl; believed = λ q. refl; order = record { next = x.0; enabled = x.1; rises = higher; is = itself _ } })
+          (record { home = home; signal_is = A.signal old.progress.done _ x.0 p s refl; kernel = refl; tells = refl; base = record { took = refl; posts = refl; slots = λ q. sym (Rattle.protocol.proofs.Process.cond_same (q == p) (old.slots q)) }; gossip = refl; believed = λ q. refl; order = record { next = x.0; enabled = x.1; rises = higher; is = itself _ } })
 
       run_line : (words : List (List ℕ)) → Next (order.Run words) → Made
       run_line words x =
@@ -261,7 +261,7 @@ module _ (O : Ops) (S : Sound O) where
       makes = subst (λ (k : ℕ). Makes O k (w.nodes k) t (cond (k == n) new (w.nodes k))) (sym is) (subst (Makes O n (w.nodes n) t) (sym (cond_here n new (w.nodes n))) makes);
       elsewhere = λ m ne. cond_off m n new (w.nodes m) (λ z. ne (z ∙ sym is));
       rest = w.links;
-      takes = λ a b. ap (λ (o : Option (Post O)). Rattle.run_tokens.specs.Cluster.at_front O o a b ++ w.links a b) (sym off);
+      takes = λ a b. ap (λ (o : Option (Post O)). Rattle.protocol.specs.Cluster.at_front O o a b ++ w.links a b) (sym off);
       posts = λ a b. refl;
     },
   )
@@ -300,7 +300,7 @@ module _ (O : Ops) (S : Sound O) where
     send_made None chooses =
         let t : Turn O = record { event = record { stamp = old.clock + 1; node = n; what = Gossips false other }; taken = None; posted = letter O n other (old.clock + 1) (Half told) ∷ [] } in
         let new : Local O = record { clock = old.clock + 1; kernel = old.kernel; slots = old.slots; believed = old.believed; progress = old.progress; gossip = gossip } in
-        (t, new, record { node = refl; below = below; stamp_is = omega arith; clock = refl; does = record { talks = talks None t new refl refl chooses; base = record { took = refl; posts = refl; slots = λ q. sym (Rattle.run_tokens.proofs.Process.cond_same (q == 0) (old.slots q)) }; still = record { kernel = refl; believed = λ q. refl; progress = refl } } }, refl, refl)
+        (t, new, record { node = refl; below = below; stamp_is = omega arith; clock = refl; does = record { talks = talks None t new refl refl chooses; base = record { took = refl; posts = refl; slots = λ q. sym (Rattle.protocol.proofs.Process.cond_same (q == 0) (old.slots q)) }; still = record { kernel = refl; believed = λ q. refl; progress = refl } } }, refl, refl)
     send_made (Some c) chooses =
         let x = S.chosen _ c chooses in
         let y = can_run O old movable can_move c.pid x.0 in

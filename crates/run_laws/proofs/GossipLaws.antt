@@ -1,14 +1,14 @@
 -- Each half is due and goes to another node, each that is heard was sent, and each choice is one that the policy gives.
 use Rattle.std.proofs.Common.{◌≡◌, ℕ, ◌<◌, true, false, Option, List, [], ◌∷◌, sym, ap, ◌∙◌, subst}
-use Rattle.run_tokens.specs.Ops.{Ops, Sound}
-use Rattle.run_tokens.specs.Gossip.{Entry, Gossip, Sight, Talk, Silent, Stepping, Talking, talk_of}
-use Rattle.run_tokens.specs.Deeds.{Noted}
-use Rattle.run_tokens.specs.Notes.{Turn}
-use Rattle.run_tokens.specs.Spots.{Spot}
-use Rattle.run_tokens.specs.Does.{NoneRuns, seen}
-use Rattle.run_tokens.specs.Cluster.{World, Goes, events}
-use Rattle.run_tokens.proofs.Stand.{Stands, Path}
-use Rattle.run_tokens.proofs.Talking.{GossipBy, gossip_by}
+use Rattle.protocol.specs.Ops.{Ops, Sound}
+use Rattle.protocol.specs.Gossip.{Entry, Gossip, Sight, Talk, Silent, Stepping, Talking, talk_of}
+use Rattle.protocol.specs.Deeds.{Noted}
+use Rattle.protocol.specs.Notes.{Turn}
+use Rattle.protocol.specs.Spots.{Spot}
+use Rattle.protocol.specs.Does.{NoneRuns, seen}
+use Rattle.protocol.specs.Cluster.{World, Goes, events}
+use Rattle.protocol.proofs.Stand.{Stands, Path}
+use Rattle.protocol.proofs.Talking.{GossipBy, gossip_by}
 use Rattle.run_laws.specs.Machine.{MachineState}
 use Rattle.run_laws.specs.Schedule.{the_machine}
 use Rattle.run_laws.specs.Vectors.{exchanged}

@@ -2,10 +2,10 @@
 use Rattle.std.proofs.Common.{◌≡◌, ◌≢◌, ℕ, ◌<◌, ◌≤◌, ◌⊎◌, ◌==◌, Bool, cond, true, false, Some, None, List, [], ◌∷◌, inl, inr, refl, ap, ◌∙◌, arith}
 use Rattle.std.specs.Prelude.{pos}
 use Rattle.node_event.specs.declared.script.Order.TheVariants as order
-use Rattle.run_tokens.specs.Gossip.{Entry, Movable, Sight, Choice, IsKnown, IsMovable}
-use Rattle.run_tokens.specs.Gossip.{no_gossip}
-use Rattle.run_tokens.specs.Does.{HalfDueTo}
-use Rattle.run_tokens.proofs.Talk.{numbers_other}
+use Rattle.protocol.specs.Gossip.{Entry, Movable, Sight, Choice, IsKnown, IsMovable}
+use Rattle.protocol.specs.Gossip.{no_gossip}
+use Rattle.protocol.specs.Does.{HalfDueTo}
+use Rattle.protocol.proofs.Talk.{numbers_other}
 use Rattle.run_laws.specs.Loads.{IsFree}
 use Rattle.run_laws.specs.Lawful.{Lawful}
 use Rattle.run_laws.specs.Grounds.{Grounded}

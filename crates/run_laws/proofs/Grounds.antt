@@ -1,21 +1,21 @@
 -- Each refusal of a move that is under way has such a move, and each decision is on the machine's pages.
 use Rattle.std.proofs.Common.{◌≡◌, ℕ, zero, suc, ◌+◌, ◌<◌, ◌≤◌, ◌⊎◌, inl, inr, Bool, true, false, not, Option, Some, None, List, [], ◌∷◌, refl, sym, ap, ◌∙◌, subst, arith}
-use Rattle.run_tokens.specs.Ops.{Ops, Sound}
-use Rattle.run_tokens.specs.Deeds.{Gone, Moving, There, Deed, Run, Kill, Bid, Unsent, Other, Steps, Sent, Heed, Held, Served, Got, Poked, Begin, Keep, Missed, Again, Allows, Denies, Depart, Stay, Land, Told, Refused, Closed, Gossips, Strange, Noted, pid_of}
-use Rattle.run_tokens.specs.Notes.{Turn, Body, Kept, Running, Waiting, Asking, context}
-use Rattle.run_tokens.specs.Spots.{Spot, Nowhere, Runs, Calls, Holds, Pauses, Answered, Asks, Granted, Denied, Travels, InReply, Ended}
-use Rattle.run_tokens.specs.Cluster.{World}
-use Rattle.run_tokens.specs.Does.{Does}
-use Rattle.run_tokens.specs.Needs.{Needs}
+use Rattle.protocol.specs.Ops.{Ops, Sound}
+use Rattle.protocol.specs.Deeds.{Gone, Moving, There, Deed, Run, Kill, Bid, Unsent, Other, Steps, Sent, Heed, Held, Served, Got, Poked, Begin, Keep, Missed, Again, Allows, Denies, Depart, Stay, Land, Told, Refused, Closed, Gossips, Strange, Noted, pid_of}
+use Rattle.protocol.specs.Notes.{Turn, Body, Kept, Running, Waiting, Asking, context}
+use Rattle.protocol.specs.Spots.{Spot, Nowhere, Runs, Calls, Holds, Pauses, Answered, Asks, Granted, Denied, Travels, InReply, Ended}
+use Rattle.protocol.specs.Cluster.{World}
+use Rattle.protocol.specs.Does.{Does}
+use Rattle.protocol.specs.Needs.{Needs}
 use Rattle.run_laws.specs.Machine.{MachineState}
-use Rattle.run_tokens.specs.Cluster.{events}
+use Rattle.protocol.specs.Cluster.{events}
 use Rattle.run_laws.specs.Facts.{Facts, facts, Node}
 use Rattle.run_laws.specs.UnderWay.{moves, UnderWay}
 use Rattle.run_laws.specs.Grounds.{EndedWhere, GroundedAt, Grounded}
-use Rattle.run_tokens.specs.Deeds.{KeptTold}
-use Rattle.run_tokens.specs.Home.{HasEnded, UnsentFor}
-use Rattle.run_tokens.specs.Does.{InUse}
-use Rattle.run_tokens.specs.Needs.{GotReply}
+use Rattle.protocol.specs.Deeds.{KeptTold}
+use Rattle.protocol.specs.Home.{HasEnded, UnsentFor}
+use Rattle.protocol.specs.Does.{InUse}
+use Rattle.protocol.specs.Needs.{GotReply}
 use Rattle.std.specs.Prelude.{nat_lt, ◌-◌}
 use Rattle.std.proofs.lemmas.Bool.Decides.{nat_tests}
 use Rattle.run_laws.specs.Schedule.{machine_at, With}
@@ -23,17 +23,17 @@ use Rattle.run_laws.specs.Pages.{pages_of, used_pages}
 use Rattle.run_laws.proofs.Pages.{path_used}
 use Rattle.run_laws.proofs.Plays.{at_replay, with_some}
 use Rattle.run_laws.proofs.Played.{Agrees}
-use Rattle.run_tokens.proofs.Process.{StateTells, context_tells}
-use Rattle.run_tokens.proofs.Stand.{Stands, Step, Path}
+use Rattle.protocol.proofs.Process.{StateTells, context_tells}
+use Rattle.protocol.proofs.Stand.{Stands, Step, Path}
 use Rattle.run_laws.proofs.Facts.{facts_of, kept_to, path_tells}
 use Rattle.run_laws.proofs.Replay.{user_of}
-use Rattle.run_tokens.specs.Needs.{alive, Right}
+use Rattle.protocol.specs.Needs.{alive, Right}
 use Rattle.run_laws.proofs.Played.{path_played}
 use Rattle.run_laws.proofs.Moves.{Balanced, asks_of, path_balanced}
 use Rattle.run_laws.proofs.Hops.{over, AtPlace, Ok}
 use Rattle.run_laws.proofs.Trails.{path_trails, path_lives, taken_ok, TakenOk}
 use Rattle.run_laws.specs.Outcomes.{outcomes}
-use Rattle.run_tokens.proofs.Talk.{same_numbers}
+use Rattle.protocol.proofs.Talk.{same_numbers}
 use Rattle.run_laws.proofs.Errands.{settled, errand_way, of_line}
 use Rattle.run_laws.proofs.Family.{was_under}
 use Rattle.run_laws.proofs.Lines.{errand_tells, path_lines}

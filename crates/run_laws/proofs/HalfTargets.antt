@@ -3,11 +3,11 @@ use Rattle.std.proofs.Common.{◌≡◌, ◌≢◌, ℕ, zero, suc, ◌+◌, ◌
 use Rattle.std.specs.Prelude.{nat_lt}
 use Rattle.std.proofs.Math.Nat.{mod-lt}
 use Rattle.std.proofs.lemmas.Bool.Decides.{nat_tests}
-use Rattle.run_tokens.specs.Ops.{Ops, Sound}
-use Rattle.run_tokens.specs.Gossip.{Entry, Gossip, Choice, IsKnown, later, newest, one_entry, known_below, other_at}
-use Rattle.run_tokens.specs.Notes.{Turn, Local}
-use Rattle.run_tokens.specs.Does.{NoneRuns, HalfDueTo, Talks}
-use Rattle.run_tokens.proofs.Talk.{numbers_same}
+use Rattle.protocol.specs.Ops.{Ops, Sound}
+use Rattle.protocol.specs.Gossip.{Entry, Gossip, Choice, IsKnown, later, newest, one_entry, known_below, other_at}
+use Rattle.protocol.specs.Notes.{Turn, Local}
+use Rattle.protocol.specs.Does.{NoneRuns, HalfDueTo, Talks}
+use Rattle.protocol.proofs.Talk.{numbers_same}
 
 pub other_below : (nodes n k : ℕ) → k + 1 < nodes → other_at n k < nodes
 other_below nodes n k more = go (nat_lt k n)

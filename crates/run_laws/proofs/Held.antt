@@ -1,8 +1,8 @@
 -- A call of a process is held at home exactly where the events tell so.
 use Rattle.std.proofs.Common.{◌≡◌, not, refl}
-use Rattle.run_tokens.specs.Ops.{Ops, Sound}
-use Rattle.run_tokens.specs.Spots.{Spot, Nowhere, Runs, Calls, Holds, Pauses, Answered, Asks, Granted, Denied, Travels, InReply, Ended, call_at}
-use Rattle.run_tokens.specs.Home.{unheld}
+use Rattle.protocol.specs.Ops.{Ops, Sound}
+use Rattle.protocol.specs.Spots.{Spot, Nowhere, Runs, Calls, Holds, Pauses, Answered, Asks, Granted, Denied, Travels, InReply, Ended, call_at}
+use Rattle.protocol.specs.Home.{unheld}
 use Rattle.run_laws.specs.Facts.{is_held}
 use Rattle.run_laws.proofs.Facts.{facts_of}
 

@@ -1,14 +1,14 @@
 -- What a node has, counted by its own slots: it is what the events tell.
 use Rattle.std.proofs.Common.{◌≡◌, ℕ, zero, suc, ◌+◌, ◌≤◌, ◌==◌, ◌⊎◌, inl, inr, Bool, true, false, cond, Option, Some, None, List, [], ◌∷◌, ◌++◌, refl, sym, ap, ◌∙◌, subst, arith}
 use Rattle.std.proofs.lemmas.List.{append-nil}
-use Rattle.run_tokens.specs.Ops.{Ops, Sound, sum_below, one_if}
-use Rattle.run_tokens.specs.Gossip.{Movable, IsMovable, listed_below}
-use Rattle.run_tokens.specs.Notes.{Turn, Body, State, Running, Waiting, Asking, Context, context, Slot, Local}
-use Rattle.run_tokens.specs.Spots.{Spot, Nowhere, Runs, Calls, Holds, Pauses, Answered, Asks, Granted, Denied, Travels, InReply, Ended, site, kept_at, slot_by}
-use Rattle.run_tokens.specs.Does.{slot_pages, InUse, is_here, Loaded, movable_as, movable_one, CanMove}
-use Rattle.run_tokens.specs.Cluster.{World, events}
-use Rattle.run_tokens.proofs.Process.{cond_same}
-use Rattle.run_tokens.proofs.Stand.{Stands, Path}
+use Rattle.protocol.specs.Ops.{Ops, Sound, sum_below, one_if}
+use Rattle.protocol.specs.Gossip.{Movable, IsMovable, listed_below}
+use Rattle.protocol.specs.Notes.{Turn, Body, State, Running, Waiting, Asking, Context, context, Slot, Local}
+use Rattle.protocol.specs.Spots.{Spot, Nowhere, Runs, Calls, Holds, Pauses, Answered, Asks, Granted, Denied, Travels, InReply, Ended, site, kept_at, slot_by}
+use Rattle.protocol.specs.Does.{slot_pages, InUse, is_here, Loaded, movable_as, movable_one, CanMove}
+use Rattle.protocol.specs.Cluster.{World, events}
+use Rattle.protocol.proofs.Process.{cond_same}
+use Rattle.protocol.proofs.Stand.{Stands, Path}
 use Rattle.run_laws.specs.Machine.{MachineState}
 use Rattle.run_laws.specs.Facts.{Facts, facts}
 use Rattle.run_laws.specs.Pages.{is_at, used_pages}
@@ -119,7 +119,7 @@ module _ (O : Ops) (S : Sound O) where
   move_run p true b = refl
   move_run p false b = refl
 
-  move_wait : (p : ℕ) (x : Bool) (b : Body O) (pause : Bool) (k : Option Rattle.run_tokens.specs.Notes.Kept) → movable_one O p (cond x (Some (context O b (Waiting pause k))) None) ≡ cond x [] []
+  move_wait : (p : ℕ) (x : Bool) (b : Body O) (pause : Bool) (k : Option Rattle.protocol.specs.Notes.Kept) → movable_one O p (cond x (Some (context O b (Waiting pause k))) None) ≡ cond x [] []
   move_wait p true b pause k = refl
   move_wait p false b pause k = refl
 

@@ -1,9 +1,9 @@
 -- Each entry of each vector is honest, and so is each of a half that is under way.
 use Rattle.std.proofs.Common.{◌≡◌, ℕ, zero, suc, ◌+◌, ◌-◌, ◌==◌, ◌&&◌, inl, inr, Bool, true, false, cond, Option, Some, None, List, [], ◌∷◌, ◌++◌, refl, sym, ap, ◌∙◌}
 use Rattle.std.proofs.lemmas.List.{append-nil}
-use Rattle.run_tokens.specs.Ops.{Ops, sum_below, one_if}
-use Rattle.run_tokens.specs.Gossip.{Entry, Gossip, Choice, renewed, first_places, told_places, woven, gossip_after, Talk, Silent, Stepping, Talking, talk_of}
-use Rattle.run_tokens.specs.Deeds.{Chosen, Deed, Begin, Gossips, Noted}
+use Rattle.protocol.specs.Ops.{Ops, sum_below, one_if}
+use Rattle.protocol.specs.Gossip.{Entry, Gossip, Choice, renewed, first_places, told_places, woven, gossip_after, Talk, Silent, Stepping, Talking, talk_of}
+use Rattle.protocol.specs.Deeds.{Chosen, Deed, Begin, Gossips, Noted}
 use Rattle.run_laws.specs.Machine.{MachineState}
 use Rattle.run_laws.specs.Schedule.{schedule, machine_or, the_machine}
 use Rattle.run_laws.specs.Facts.{Place, facts}

@@ -1,18 +1,18 @@
 -- Where a process was at a number of landings: each Go, each Landed and home's belief name a place that the process had, and has left or still has.
 use Rattle.std.proofs.Common.{◌≡◌, ◌≢◌, ℕ, ◌+◌, ◌<◌, ◌⊎◌, inl, inr, Bool, true, false, cond, Option, Some, None, List, ◌∷◌, refl, sym, ap, ◌∙◌, subst, arith}
-use Rattle.run_tokens.specs.Ops.{Ops, Sound, is_child, counted}
-use Rattle.run_tokens.specs.Deeds.{Manner, Did, Broke, Fell, Paused, Deed, Run, Kill, Bid, Unsent, Other, Steps, Sent, Heed, Held, Served, Got, Poked, Begin, Keep, Missed, Again, Allows, Denies, Depart, Stay, Land, Told, Refused, Closed, Gossips, Strange, pid_of, child_of}
-use Rattle.run_tokens.specs.Notes.{Done, Turn, Body, Kept, Local}
-use Rattle.run_tokens.specs.Spots.{Spot, Nowhere, Runs, Calls, Holds, Pauses, Answered, Asks, Granted, Denied, Travels, InReply, Ended, site}
-use Rattle.run_tokens.specs.Home.{returned, after}
-use Rattle.run_tokens.specs.Cluster.{World}
-use Rattle.run_tokens.specs.Needs.{Needs, ServedSo, ServedCall, got_spot, asked, mark, keep_in, brings, born_spot}
-use Rattle.run_tokens.specs.Cluster.{events}
+use Rattle.protocol.specs.Ops.{Ops, Sound, is_child, counted}
+use Rattle.protocol.specs.Deeds.{Manner, Did, Broke, Fell, Paused, Deed, Run, Kill, Bid, Unsent, Other, Steps, Sent, Heed, Held, Served, Got, Poked, Begin, Keep, Missed, Again, Allows, Denies, Depart, Stay, Land, Told, Refused, Closed, Gossips, Strange, pid_of, child_of}
+use Rattle.protocol.specs.Notes.{Done, Turn, Body, Kept, Local}
+use Rattle.protocol.specs.Spots.{Spot, Nowhere, Runs, Calls, Holds, Pauses, Answered, Asks, Granted, Denied, Travels, InReply, Ended, site}
+use Rattle.protocol.specs.Home.{returned, after}
+use Rattle.protocol.specs.Cluster.{World}
+use Rattle.protocol.specs.Needs.{Needs, ServedSo, ServedCall, got_spot, asked, mark, keep_in, brings, born_spot}
+use Rattle.protocol.specs.Cluster.{events}
 use Rattle.run_laws.specs.UnderWay.{Moves, moves_own, moves}
-use Rattle.run_tokens.proofs.Talk.{same_numbers, other_numbers}
-use Rattle.run_tokens.proofs.Quiet.{child_so, home_so, counts}
-use Rattle.run_tokens.proofs.Coupling.{Part, Own, Child, Rest, part, at_own, at_child, at_rest, got_brings, so_brings}
-use Rattle.run_tokens.proofs.Stand.{Stands, Step, child_apart}
+use Rattle.protocol.proofs.Talk.{same_numbers, other_numbers}
+use Rattle.protocol.proofs.Quiet.{child_so, home_so, counts}
+use Rattle.protocol.proofs.Coupling.{Part, Own, Child, Rest, part, at_own, at_child, at_rest, got_brings, so_brings}
+use Rattle.protocol.proofs.Stand.{Stands, Step, child_apart}
 use Rattle.run_laws.proofs.Moves.{Balanced}
 use Rattle.std.specs.Prelude.{ℤ}
 use Rattle.call_table.specs.declared.process.End.{End}

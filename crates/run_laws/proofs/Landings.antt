@@ -1,12 +1,12 @@
 -- Home is told of each landing as it was, in every run.
 use Rattle.std.proofs.Common.{◌≡◌, ℕ, Option, Some, None, List, ap, [], ◌∷◌}
-use Rattle.run_tokens.specs.Ops.{Ops, Sound}
-use Rattle.run_tokens.specs.Deeds.{Deed, Run, Kill, Bid, Unsent, Other, Steps, Sent, Heed, Held, Served, Got, Poked, Begin, Keep, Missed, Again, Allows, Denies, Depart, Stay, Land, Told, Refused, Closed, Gossips, Strange}
-use Rattle.run_tokens.specs.Notes.{Note, Landed, Turn, Way, way}
-use Rattle.run_tokens.specs.Spots.{Spot}
-use Rattle.run_tokens.specs.Does.{Does}
-use Rattle.run_tokens.specs.Cluster.{World, events}
-use Rattle.run_tokens.proofs.Stand.{Step, Path}
+use Rattle.protocol.specs.Ops.{Ops, Sound}
+use Rattle.protocol.specs.Deeds.{Deed, Run, Kill, Bid, Unsent, Other, Steps, Sent, Heed, Held, Served, Got, Poked, Begin, Keep, Missed, Again, Allows, Denies, Depart, Stay, Land, Told, Refused, Closed, Gossips, Strange}
+use Rattle.protocol.specs.Notes.{Note, Landed, Turn, Way, way}
+use Rattle.protocol.specs.Spots.{Spot}
+use Rattle.protocol.specs.Does.{Does}
+use Rattle.protocol.specs.Cluster.{World, events}
+use Rattle.protocol.proofs.Stand.{Step, Path}
 use Rattle.run_laws.specs.LandingLaw.{LandingAt, LandingLaw}
 use Rattle.run_laws.proofs.Family.{was_under}
 use Rattle.run_laws.proofs.Reports.{Report, NotYet, OnWay, Heard, report_way, landed_of, both_here, Reports, path_reports}

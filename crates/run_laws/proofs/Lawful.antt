@@ -1,16 +1,16 @@
 -- The laws hold of every run.
 use Rattle.std.proofs.Common.{◌≡◌, inl, inr, ◌<◌, ◌≢◌, ℕ, Bool, true, false, not, cond, Option, Some, None, List, [], ◌∷◌, ◌++◌, refl, sym, ap, ◌∙◌, subst}
 use Rattle.std.specs.Prelude.{ℤ}
-use Rattle.run_tokens.specs.Ops.{Ops, Sound}
-use Rattle.run_tokens.specs.Deeds.{Manner, Did, Broke, Fell, Paused, KeptTold, Deed, Run, Kill, Bid, Unsent, Other, Steps, Sent, Heed, Held, Served, Got, Poked, Begin, Keep, Missed, Again, Allows, Denies, Depart, Stay, Land, Told, Refused, Closed, Gossips, Strange, pid_of, child_of}
-use Rattle.run_tokens.specs.Notes.{Turn, Body, Kept, Local, Slot, is_some}
-use Rattle.run_tokens.specs.Spots.{Spot, Nowhere, Runs, Calls, Holds, Pauses, Answered, Asks, Granted, Denied, Travels, InReply, Ended, call_at}
-use Rattle.run_tokens.specs.Home.{First, last, last_by, Acts, unheld}
-use Rattle.run_tokens.specs.Does.{kept_told}
-use Rattle.run_tokens.specs.Cluster.{World}
-use Rattle.run_tokens.specs.Needs.{Needs, ServedSo, ServedCall, asked, AwakeAt, AsleepAt, AwayFrom, FreeAt, alive, Right}
+use Rattle.protocol.specs.Ops.{Ops, Sound}
+use Rattle.protocol.specs.Deeds.{Manner, Did, Broke, Fell, Paused, KeptTold, Deed, Run, Kill, Bid, Unsent, Other, Steps, Sent, Heed, Held, Served, Got, Poked, Begin, Keep, Missed, Again, Allows, Denies, Depart, Stay, Land, Told, Refused, Closed, Gossips, Strange, pid_of, child_of}
+use Rattle.protocol.specs.Notes.{Turn, Body, Kept, Local, Slot, is_some}
+use Rattle.protocol.specs.Spots.{Spot, Nowhere, Runs, Calls, Holds, Pauses, Answered, Asks, Granted, Denied, Travels, InReply, Ended, call_at}
+use Rattle.protocol.specs.Home.{First, last, last_by, Acts, unheld}
+use Rattle.protocol.specs.Does.{kept_told}
+use Rattle.protocol.specs.Cluster.{World}
+use Rattle.protocol.specs.Needs.{Needs, ServedSo, ServedCall, asked, AwakeAt, AsleepAt, AwayFrom, FreeAt, alive, Right}
 use Rattle.run_laws.specs.Machine.{MachineState}
-use Rattle.run_tokens.specs.Cluster.{events}
+use Rattle.protocol.specs.Cluster.{events}
 use Rattle.run_laws.specs.Facts.{Place, Node, Facts, facts, is_held}
 use Rattle.run_laws.specs.PlaceLaw.{PlaceAt}
 use Rattle.run_laws.specs.FreezeLaw.{FreezeAt, kept_target, KeptWord}
@@ -21,7 +21,7 @@ use Rattle.run_laws.specs.PokeLaw.{PokeAt, in_order, to_wake}
 use Rattle.run_laws.specs.SilentLaw.{SilentAt, SilentLaw}
 use Rattle.run_laws.proofs.Silent.{silent_law}
 use Rattle.run_laws.proofs.Poking.{wakes, wakes_any, call_raised, pause_raised}
-use Rattle.run_tokens.proofs.Alive.{asked_alive}
+use Rattle.protocol.proofs.Alive.{asked_alive}
 use Rattle.std.proofs.lemmas.List.{append-nil}
 use Rattle.run_laws.specs.ScriptLaw.{ScriptAt}
 use Rattle.run_laws.specs.NewsLaw.{NewsLaw}
@@ -29,14 +29,14 @@ use Rattle.run_laws.proofs.Again.{path_again}
 use Rattle.run_laws.specs.Lawful.{Lawful}
 use Rattle.run_laws.specs.Machine.{machine_steps, listed, raised_in, raised_by, Raise}
 use Rattle.run_laws.specs.Schedule.{call_step, take_step, machine_at, With, told_so, told_by}
-use Rattle.run_tokens.specs.Home.{NeverGiven}
+use Rattle.protocol.specs.Home.{NeverGiven}
 use Rattle.run_laws.proofs.Plays.{at_replay, call_plays, with_some}
 use Rattle.run_laws.proofs.Script.{script_next}
 use Rattle.run_laws.proofs.Held.{held_same}
-use Rattle.run_tokens.proofs.Coupling.{at_own}
+use Rattle.protocol.proofs.Coupling.{at_own}
 use Rattle.run_laws.specs.OnePlace.{OnePlace, PlacedAt}
-use Rattle.run_tokens.proofs.Talk.{same_numbers}
-use Rattle.run_tokens.proofs.Stand.{Stands, Step, Path, child_apart}
+use Rattle.protocol.proofs.Talk.{same_numbers}
+use Rattle.protocol.proofs.Stand.{Stands, Step, Path, child_apart}
 use Rattle.run_laws.proofs.Facts.{kept_to, facts_of, path_tells}
 use Rattle.run_laws.proofs.Replay.{user_of, first_plays}
 use Rattle.run_laws.proofs.Played.{Agrees, path_played}

@@ -56,3 +56,4 @@ pub mod GossipLaws
 pub mod HonestVectors
 pub mod GossipStories
 pub mod WholeStory
+pub mod OneNode

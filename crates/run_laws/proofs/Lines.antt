@@ -1,22 +1,22 @@
 -- Each move line has at most one outcome: its errand is in one place, and is settled once.
 use Rattle.std.proofs.Common.{◌≡◌, ◌≢◌, ℕ, ◌+◌, ◌≤◌, ◌==◌, ◌⊎◌, inl, inr, Bool, true, false, cond, Option, Some, None, List, [], ◌∷◌, refl, sym, ap, ◌∙◌, subst, arith}
-use Rattle.run_tokens.specs.Ops.{Ops, Sound, is_child}
-use Rattle.run_tokens.specs.Deeds.{ForLine, Chosen, Manner, Did, Broke, Fell, Paused, Why, KeptTold, Deed, Run, Kill, Bid, Unsent, Other, Steps, Sent, Heed, Held, Served, Got, Poked, Begin, Keep, Missed, Again, Allows, Denies, Depart, Stay, Land, Told, Refused, Closed, Gossips, Strange, pid_of, child_of}
-use Rattle.run_tokens.specs.Notes.{Note, Call, Pause, Reply, Poke, Half, Go, NotHere, Ask, Allow, Deny, Move, Landed, NoMove, Post, Turn, letter, Body, Kept, Local, Believed, Waiting, Asking, Way, way, Progress}
-use Rattle.run_tokens.specs.Spots.{Spot, Travels}
-use Rattle.run_tokens.specs.Cluster.{World, Goes}
-use Rattle.run_tokens.specs.Does.{Does, ServedBy, got_posts, kept_told}
-use Rattle.run_tokens.specs.Home.{pokes, line_closed, after}
-use Rattle.run_tokens.specs.Needs.{Needs, born_spot}
-use Rattle.run_tokens.specs.Cluster.{events}
+use Rattle.protocol.specs.Ops.{Ops, Sound, is_child}
+use Rattle.protocol.specs.Deeds.{ForLine, Chosen, Manner, Did, Broke, Fell, Paused, Why, KeptTold, Deed, Run, Kill, Bid, Unsent, Other, Steps, Sent, Heed, Held, Served, Got, Poked, Begin, Keep, Missed, Again, Allows, Denies, Depart, Stay, Land, Told, Refused, Closed, Gossips, Strange, pid_of, child_of}
+use Rattle.protocol.specs.Notes.{Note, Call, Pause, Reply, Poke, Half, Go, NotHere, Ask, Allow, Deny, Move, Landed, NoMove, Post, Turn, letter, Body, Kept, Local, Believed, Waiting, Asking, Way, way, Progress}
+use Rattle.protocol.specs.Spots.{Spot, Travels}
+use Rattle.protocol.specs.Cluster.{World, Goes}
+use Rattle.protocol.specs.Does.{Does, ServedBy, got_posts, kept_told}
+use Rattle.protocol.specs.Home.{pokes, line_closed, after}
+use Rattle.protocol.specs.Needs.{Needs, born_spot}
+use Rattle.protocol.specs.Cluster.{events}
 use Rattle.run_laws.specs.Facts.{Facts, fact_own, facts}
 use Rattle.run_laws.specs.Outcomes.{outcome_line, ended_line, outcomes, counted_if}
 use Rattle.run_laws.proofs.Errands.{Errand, Untried, Going, Back, With, Reported, Closing, Over, settled, errand_way, of_line}
-use Rattle.run_tokens.proofs.Talk.{same_numbers, other_numbers, numbers_same, numbers_other}
-use Rattle.run_tokens.proofs.Process.{StateTells, context_tells, way_tells, took_way}
-use Rattle.run_tokens.proofs.Own.{takes_in}
-use Rattle.run_tokens.proofs.Coupling.{Part, Own, Child, Rest, part, at_own, at_child, at_rest}
-use Rattle.run_tokens.proofs.Stand.{Stands, Step, Path}
+use Rattle.protocol.proofs.Talk.{same_numbers, other_numbers, numbers_same, numbers_other}
+use Rattle.protocol.proofs.Process.{StateTells, context_tells, way_tells, took_way}
+use Rattle.protocol.proofs.Own.{takes_in}
+use Rattle.protocol.proofs.Coupling.{Part, Own, Child, Rest, part, at_own, at_child, at_rest}
+use Rattle.protocol.proofs.Stand.{Stands, Step, Path}
 use Rattle.run_laws.proofs.Facts.{facts_of, kept_line, own_facts, path_tells}
 use Rattle.run_laws.proofs.Family.{NoneOf, NotTaken, Under, stays, goes_out, was_under, comes_in, turns}
 use Rattle.std.specs.Prelude.{ℤ}

@@ -3,16 +3,16 @@ use Rattle.std.proofs.Common.{◌≡◌, ◌≢◌, ℕ, ◌<◌, ◌≤◌, ◌
 use Rattle.std.specs.Prelude.{ℤ}
 use Rattle.call_table.specs.declared.process.End.{End}
 use Rattle.node_event.specs.declared.script.Order.{Order}
-use Rattle.run_tokens.specs.Ops.{Ops, Sound}
-use Rattle.run_tokens.specs.Deeds.{ForLine, Chosen, Manner, Did, Broke, Fell, Paused, Deed, Run, Kill, Bid, Unsent, Other, Steps, Sent, Heed, Held, Served, Got, Poked, Begin, Keep, Missed, Again, Allows, Denies, Depart, Stay, Land, Told, Refused, Closed, Gossips, Strange}
-use Rattle.run_tokens.specs.Notes.{Post, Turn, Body, Local, Slot, Running, context}
-use Rattle.run_tokens.specs.Spots.{Spot, Runs, slot_by}
-use Rattle.run_tokens.specs.Does.{Does, Makes, ServedBy, Retries, Ordered, Talks, HalfDueTo, NoneRuns}
-use Rattle.run_tokens.specs.Gossip.{Entry, Choice}
-use Rattle.run_tokens.specs.Cluster.{World, Fresh}
-use Rattle.run_tokens.specs.Rests.{Kind, Retry, RunOn, NextLine, SendHalf, LineReady, HalfReady, Applies}
-use Rattle.run_tokens.proofs.Process.{cond_here}
-use Rattle.run_tokens.proofs.Stand.{Stands, Path}
+use Rattle.protocol.specs.Ops.{Ops, Sound}
+use Rattle.protocol.specs.Deeds.{ForLine, Chosen, Manner, Did, Broke, Fell, Paused, Deed, Run, Kill, Bid, Unsent, Other, Steps, Sent, Heed, Held, Served, Got, Poked, Begin, Keep, Missed, Again, Allows, Denies, Depart, Stay, Land, Told, Refused, Closed, Gossips, Strange}
+use Rattle.protocol.specs.Notes.{Post, Turn, Body, Local, Slot, Running, context}
+use Rattle.protocol.specs.Spots.{Spot, Runs, slot_by}
+use Rattle.protocol.specs.Does.{Does, Makes, ServedBy, Retries, Ordered, Talks, HalfDueTo, NoneRuns}
+use Rattle.protocol.specs.Gossip.{Entry, Choice}
+use Rattle.protocol.specs.Cluster.{World, Fresh}
+use Rattle.protocol.specs.Rests.{Kind, Retry, RunOn, NextLine, SendHalf, LineReady, HalfReady, Applies}
+use Rattle.protocol.proofs.Process.{cond_here}
+use Rattle.protocol.proofs.Stand.{Stands, Path}
 
 module _ (O : Ops) (S : Sound O) where
   -- a letter is none

@@ -2,14 +2,14 @@
 use Rattle.std.proofs.Common.{◌≡◌, ◌≢◌, ℕ, zero, suc, ◌<◌, ◌≤◌, ◌==◌, ◌⊎◌, inl, inr, Bool, true, false, cond, List, [], ◌∷◌, refl, sym, ap, ◌∙◌, subst, arith}
 use Rattle.std.proofs.lemmas.Bool.Decides.{leb_tells}
 use lib.Dec.{leb}
-use Rattle.run_tokens.specs.Cluster.{events}
-use Rattle.run_tokens.specs.Notes.{Local}
+use Rattle.protocol.specs.Cluster.{events}
+use Rattle.protocol.specs.Notes.{Local}
 use Rattle.run_laws.specs.Carried.{Each, Later, Sorted, own_events, Alone}
-use Rattle.run_tokens.proofs.Talk.{same_numbers, numbers_same}
-use Rattle.run_tokens.specs.Ops.{Ops}
+use Rattle.protocol.proofs.Talk.{same_numbers, numbers_same}
+use Rattle.protocol.specs.Ops.{Ops}
 use Rattle.run_laws.proofs.Stamps.{rises}
-use Rattle.run_tokens.specs.Deeds.{Noted}
-use Rattle.run_tokens.specs.Notes.{Turn}
+use Rattle.protocol.specs.Deeds.{Noted}
+use Rattle.protocol.specs.Notes.{Turn}
 
 pub later_trans : (e f g : Noted) → Later e f → Later f g → Later e g
 later_trans e f g (inl a) (inl b) = inl (omega arith)

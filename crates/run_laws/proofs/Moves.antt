@@ -1,19 +1,19 @@
 -- The counts of a process's moves and its spot agree.
 use Rattle.std.proofs.Common.{◌≡◌, ℕ, ◌+◌, Bool, true, false, cond, Option, Some, None, List, [], ◌∷◌, refl, sym, ap, ◌∙◌, subst, arith}
-use Rattle.run_tokens.specs.Ops.{Ops, Sound}
-use Rattle.run_tokens.specs.Deeds.{Manner, Did, Broke, Fell, Paused, KeptTold, Deed, Run, Kill, Bid, Unsent, Other, Steps, Sent, Heed, Held, Served, Got, Poked, Begin, Keep, Missed, Again, Allows, Denies, Depart, Stay, Land, Told, Refused, Closed, Gossips, Strange, pid_of, child_of}
-use Rattle.run_tokens.specs.Notes.{Done, Turn, Body, Kept, Local}
-use Rattle.run_tokens.specs.Spots.{Spot, Nowhere, Runs, Calls, Holds, Pauses, Answered, Asks, Granted, Denied, Travels, InReply, Ended}
-use Rattle.run_tokens.specs.Home.{returned, after}
-use Rattle.run_tokens.specs.Does.{kept_told}
-use Rattle.run_tokens.specs.Cluster.{World}
-use Rattle.run_tokens.specs.Needs.{Needs, ServedSo, ServedCall, got_spot, asked, mark, keep_in, born_spot}
-use Rattle.run_tokens.specs.Cluster.{events}
+use Rattle.protocol.specs.Ops.{Ops, Sound}
+use Rattle.protocol.specs.Deeds.{Manner, Did, Broke, Fell, Paused, KeptTold, Deed, Run, Kill, Bid, Unsent, Other, Steps, Sent, Heed, Held, Served, Got, Poked, Begin, Keep, Missed, Again, Allows, Denies, Depart, Stay, Land, Told, Refused, Closed, Gossips, Strange, pid_of, child_of}
+use Rattle.protocol.specs.Notes.{Done, Turn, Body, Kept, Local}
+use Rattle.protocol.specs.Spots.{Spot, Nowhere, Runs, Calls, Holds, Pauses, Answered, Asks, Granted, Denied, Travels, InReply, Ended}
+use Rattle.protocol.specs.Home.{returned, after}
+use Rattle.protocol.specs.Does.{kept_told}
+use Rattle.protocol.specs.Cluster.{World}
+use Rattle.protocol.specs.Needs.{Needs, ServedSo, ServedCall, got_spot, asked, mark, keep_in, born_spot}
+use Rattle.protocol.specs.Cluster.{events}
 use Rattle.run_laws.specs.UnderWay.{Moves, no_moves, begun_by, moves_own, moves}
-use Rattle.run_tokens.proofs.Talk.{same_numbers, other_numbers}
-use Rattle.run_tokens.proofs.Quiet.{child_so, home_so}
-use Rattle.run_tokens.proofs.Coupling.{Part, Own, Child, Rest, part, at_own, at_child, at_rest, got_brings}
-use Rattle.run_tokens.proofs.Stand.{Stands, Step, Path}
+use Rattle.protocol.proofs.Talk.{same_numbers, other_numbers}
+use Rattle.protocol.proofs.Quiet.{child_so, home_so}
+use Rattle.protocol.proofs.Coupling.{Part, Own, Child, Rest, part, at_own, at_child, at_rest, got_brings}
+use Rattle.protocol.proofs.Stand.{Stands, Step, Path}
 use Rattle.std.specs.Prelude.{ℤ}
 use Rattle.call_table.specs.declared.process.End.{End}
 

@@ -4,17 +4,17 @@ use Rattle.std.specs.Prelude.{ℤ}
 use Rattle.std.proofs.lemmas.Bool.Decides.{leb_tells}
 use lib.Dec.{leb}
 use Rattle.call_table.specs.declared.process.End.{End}
-use Rattle.run_tokens.specs.Ops.{Ops, Sound, is_child}
-use Rattle.run_tokens.specs.Deeds.{ForLine, Chosen, Manner, Did, Broke, Fell, Paused, Deed, Run, Kill, Bid, Unsent, Other, Steps, Sent, Heed, Held, Served, Got, Poked, Begin, Keep, Missed, Again, Allows, Denies, Depart, Stay, Land, Told, Refused, Closed, Gossips, Strange}
-use Rattle.run_tokens.specs.Notes.{Done, Post, Poke, NoMove, Ask, letter, Turn, Body, Kept, context, Waiting, Slot, Local, Believed}
-use Rattle.run_tokens.specs.Spots.{Spot, Holds, slot_by}
-use Rattle.run_tokens.specs.Home.{after, pokes, line_closed}
-use Rattle.run_tokens.specs.Does.{Does, ServedBy, place_told, got_posts}
-use Rattle.run_tokens.specs.Cluster.{World, for_link, at_front, Goes, events}
-use Rattle.run_tokens.specs.Needs.{Names}
-use Rattle.run_tokens.proofs.Talk.{same_numbers, numbers_same, numbers_other, other_numbers}
-use Rattle.run_tokens.proofs.Process.{cond_here, StateTells, call_tells, context_tells}
-use Rattle.run_tokens.proofs.Stand.{EachBound, Stands, Path, names_at}
+use Rattle.protocol.specs.Ops.{Ops, Sound, is_child}
+use Rattle.protocol.specs.Deeds.{ForLine, Chosen, Manner, Did, Broke, Fell, Paused, Deed, Run, Kill, Bid, Unsent, Other, Steps, Sent, Heed, Held, Served, Got, Poked, Begin, Keep, Missed, Again, Allows, Denies, Depart, Stay, Land, Told, Refused, Closed, Gossips, Strange}
+use Rattle.protocol.specs.Notes.{Done, Post, Poke, NoMove, Ask, letter, Turn, Body, Kept, context, Waiting, Slot, Local, Believed}
+use Rattle.protocol.specs.Spots.{Spot, Holds, slot_by}
+use Rattle.protocol.specs.Home.{after, pokes, line_closed}
+use Rattle.protocol.specs.Does.{Does, ServedBy, place_told, got_posts}
+use Rattle.protocol.specs.Cluster.{World, for_link, at_front, Goes, events}
+use Rattle.protocol.specs.Needs.{Names}
+use Rattle.protocol.proofs.Talk.{same_numbers, numbers_same, numbers_other, other_numbers}
+use Rattle.protocol.proofs.Process.{cond_here, StateTells, call_tells, context_tells}
+use Rattle.protocol.proofs.Stand.{EachBound, Stands, Path, names_at}
 use Rattle.run_laws.proofs.Sleeps.{KeptFor, Sleeps, Since, path_sleeps}
 use Rattle.run_laws.proofs.Making.{beyond}
 use Rattle.run_laws.proofs.HalfTargets.{half_near, choice_near}

@@ -1,22 +1,22 @@
 -- A Go is sent again only with news, and to the believed place.
 use Rattle.std.proofs.Common.{◌≡◌, ◌≢◌, ℕ, ◌<◌, ◌≤◌, ◌==◌, ◌&&◌, ◌⊎◌, inl, inr, Bool, true, false, cond, Option, Some, None, List, [], ◌∷◌, ◌++◌, refl, sym, ap, ◌∙◌, subst}
-use Rattle.run_tokens.specs.Ops.{Ops, Sound}
-use Rattle.run_tokens.specs.Deeds.{ForLine, Chosen, Manner, Did, Broke, Fell, Paused, Deed, Run, Kill, Bid, Unsent, Other, Steps, Sent, Heed, Held, Served, Got, Poked, Begin, Keep, Missed, Again, Allows, Denies, Depart, Stay, Land, Told, Refused, Closed, Gossips, Strange, Noted, pid_of}
-use Rattle.run_tokens.specs.Notes.{Done, Note, Call, Pause, Reply, Poke, Half, Go, NotHere, Ask, Allow, Deny, Move, Landed, NoMove, Post, Turn, letter, Body, Kept, Local, Believed}
-use Rattle.run_tokens.specs.Spots.{Spot, site}
-use Rattle.run_tokens.specs.Cluster.{World, for_link, at_front, Goes}
-use Rattle.run_tokens.specs.Does.{Does, ServedBy, got_posts, place_told}
-use Rattle.run_tokens.specs.Home.{pokes, line_closed, after, born_at}
-use Rattle.run_tokens.specs.Needs.{Needs, ServedSo, ServedCall, asked}
-use Rattle.run_tokens.specs.Cluster.{events}
+use Rattle.protocol.specs.Ops.{Ops, Sound}
+use Rattle.protocol.specs.Deeds.{ForLine, Chosen, Manner, Did, Broke, Fell, Paused, Deed, Run, Kill, Bid, Unsent, Other, Steps, Sent, Heed, Held, Served, Got, Poked, Begin, Keep, Missed, Again, Allows, Denies, Depart, Stay, Land, Told, Refused, Closed, Gossips, Strange, Noted, pid_of}
+use Rattle.protocol.specs.Notes.{Done, Note, Call, Pause, Reply, Poke, Half, Go, NotHere, Ask, Allow, Deny, Move, Landed, NoMove, Post, Turn, letter, Body, Kept, Local, Believed}
+use Rattle.protocol.specs.Spots.{Spot, site}
+use Rattle.protocol.specs.Cluster.{World, for_link, at_front, Goes}
+use Rattle.protocol.specs.Does.{Does, ServedBy, got_posts, place_told}
+use Rattle.protocol.specs.Home.{pokes, line_closed, after, born_at}
+use Rattle.protocol.specs.Needs.{Needs, ServedSo, ServedCall, asked}
+use Rattle.protocol.specs.Cluster.{events}
 use Rattle.run_laws.specs.Facts.{Node, Facts, facts}
 use Rattle.run_laws.proofs.Errands.{settled, Errand, Untried, errand_way, of_line}
 use Rattle.run_laws.proofs.Belief.{Pick, no_belief, BelievesBy, Believes, AskedBy, Asked, NewsLaw, NewsEver}
-use Rattle.run_tokens.proofs.Talk.{same_numbers, other_numbers, numbers_same, numbers_other}
+use Rattle.protocol.proofs.Talk.{same_numbers, other_numbers, numbers_same, numbers_other}
 use Rattle.run_laws.proofs.Family.{words, NoneOf, was_under}
-use Rattle.run_tokens.proofs.Stand.{Stands, Step, Path}
+use Rattle.protocol.proofs.Stand.{Stands, Step, Path}
 use Rattle.run_laws.proofs.Lines.{errand_tells, Lines, path_lines}
-use Rattle.run_tokens.proofs.Quiet.{home_so}
+use Rattle.protocol.proofs.Quiet.{home_so}
 use Rattle.run_laws.proofs.Facts.{facts_of, path_tells}
 use Rattle.run_laws.proofs.Moves.{path_balanced}
 use Rattle.run_laws.proofs.Trails.{path_trails, path_lives, served_from}
@@ -196,7 +196,7 @@ module _ (O : Ops) (S : Sound O) where
         fresh = ln.untried line (subst (λ (k : ℕ). (w.nodes k).progress.line ≤ line) d.home d.order.rises)
 
         none : (a b : ℕ) → words O (of_line O line) (goes.rest a b) ≡ []
-        none a b = sym (ap (words O (of_line O line)) (goes.takes a b ∙ ap (λ (o : Option (Post O)). at_front O o a b ++ goes.rest a b) d.base.took)) ∙ (ln.under line a b ∙ ap (λ (e : Errand). Rattle.run_tokens.proofs.Talk.on_link O (errand_way O line e) a b) fresh)
+        none a b = sym (ap (words O (of_line O line)) (goes.takes a b ∙ ap (λ (o : Option (Post O)). at_front O o a b ++ goes.rest a b) d.base.took)) ∙ (ln.under line a b ∙ ap (λ (e : Errand). Rattle.protocol.proofs.Talk.on_link O (errand_way O line e) a b) fresh)
 
         here : Asked line es2 (old.believed x).hops
         here = subst (λ (y : Deed). AskedBy y line es (Asked line es) (old.believed x).hops) (sym is) (pick_true (line == line) _ _ (same_numbers line line refl) (old.believed x, home_believes d.home x, refl))

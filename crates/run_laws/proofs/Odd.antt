@@ -1,15 +1,15 @@
 -- In a run that keeps the rule of stamps exactly, stamps and hops are at most the number of turns, so no letter is odd.
 use Rattle.std.proofs.Common.{◌≡◌, ℕ, suc, ◌<◌, ◌≤◌, ◌==◌, ◌&&◌, inl, inr, Bool, true, false, cond, Option, Some, None, List, [], ◌∷◌, ◌++◌, length, refl, sym, ap, ◌∙◌, subst, arith, IfSome}
-use Rattle.run_tokens.specs.Ops.{Ops, Sound}
-use Rattle.run_tokens.specs.Deeds.{Deed, Run, Kill, Bid, Unsent, Other, Steps, Sent, Heed, Held, Served, Got, Poked, Begin, Keep, Missed, Again, Allows, Denies, Depart, Stay, Land, Told, Refused, Closed, Gossips, Strange, pid_of}
-use Rattle.run_tokens.specs.Notes.{Note, Move, Post, Turn, Local, Way}
-use Rattle.run_tokens.specs.Spots.{Spot, Travels, way_by}
-use Rattle.run_tokens.specs.Does.{next_stamp}
-use Rattle.run_tokens.specs.Cluster.{World, for_link, at_front, Reached, events}
-use Rattle.run_tokens.specs.Odd.{IsOdd, ManyHops, Timed, hops_end}
-use Rattle.run_tokens.proofs.Talk.{same_numbers, numbers_same, numbers_other, on_link, talk}
-use Rattle.run_tokens.proofs.Process.{WayTells, way_tells}
-use Rattle.run_tokens.proofs.Stand.{Standing, reached_stands}
+use Rattle.protocol.specs.Ops.{Ops, Sound}
+use Rattle.protocol.specs.Deeds.{Deed, Run, Kill, Bid, Unsent, Other, Steps, Sent, Heed, Held, Served, Got, Poked, Begin, Keep, Missed, Again, Allows, Denies, Depart, Stay, Land, Told, Refused, Closed, Gossips, Strange, pid_of}
+use Rattle.protocol.specs.Notes.{Note, Move, Post, Turn, Local, Way}
+use Rattle.protocol.specs.Spots.{Spot, Travels, way_by}
+use Rattle.protocol.specs.Does.{next_stamp}
+use Rattle.protocol.specs.Cluster.{World, for_link, at_front, Reached, events}
+use Rattle.protocol.specs.Odd.{IsOdd, ManyHops, Timed, hops_end}
+use Rattle.protocol.proofs.Talk.{same_numbers, numbers_same, numbers_other, on_link, talk}
+use Rattle.protocol.proofs.Process.{WayTells, way_tells}
+use Rattle.protocol.proofs.Stand.{Standing, reached_stands}
 use Rattle.run_laws.specs.UnderWay.{Moves, moves_own, moves}
 use Rattle.run_laws.specs.Carried.{Each}
 use Rattle.run_laws.proofs.Moves.{Balanced, path_balanced}

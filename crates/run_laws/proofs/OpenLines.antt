@@ -6,15 +6,15 @@ use Rattle.node_event.specs.declared.script.Order.TheVariants as order
 use Rattle.node_event.specs.declared.script.ScriptLine.{ScriptLine}
 use Rattle.std.proofs.lemmas.Bool.Decides.{leb_tells}
 use lib.Dec.{leb}
-use Rattle.run_tokens.specs.Ops.{Ops, Sound, is_child}
-use Rattle.run_tokens.specs.Deeds.{ForLine, Chosen, Input, Text, Finish, Nothing, Manner, Did, Broke, Fell, Paused, KeptTold, Deed, Run, Kill, Bid, Unsent, Other, Steps, Sent, Heed, Held, Served, Got, Poked, Begin, Keep, Missed, Again, Allows, Denies, Depart, Stay, Land, Told, Refused, Closed, Gossips, Strange, Noted, pid_of, child_of}
-use Rattle.run_tokens.specs.Notes.{Note, Call, Pause, Reply, Poke, Half, Go, NotHere, Ask, Allow, Deny, Move, Landed, NoMove, Post, Turn, Kept, Local}
-use Rattle.run_tokens.specs.Spots.{Spot, Nowhere, Runs, Calls, Holds, Pauses, Answered, Asks, Granted, Denied, Travels, InReply, Ended}
-use Rattle.run_tokens.specs.Does.{Does, ServedBy, Feeds, kept_told}
-use Rattle.run_tokens.specs.Cluster.{World, for_link, at_front, Goes, events}
-use Rattle.run_tokens.specs.Needs.{Needs, FreeAt}
-use Rattle.run_tokens.proofs.Talk.{same_numbers, numbers_same, numbers_other, other_numbers}
-use Rattle.run_tokens.proofs.Stand.{Step, Path}
+use Rattle.protocol.specs.Ops.{Ops, Sound, is_child}
+use Rattle.protocol.specs.Deeds.{ForLine, Chosen, Input, Text, Finish, Nothing, Manner, Did, Broke, Fell, Paused, KeptTold, Deed, Run, Kill, Bid, Unsent, Other, Steps, Sent, Heed, Held, Served, Got, Poked, Begin, Keep, Missed, Again, Allows, Denies, Depart, Stay, Land, Told, Refused, Closed, Gossips, Strange, Noted, pid_of, child_of}
+use Rattle.protocol.specs.Notes.{Note, Call, Pause, Reply, Poke, Half, Go, NotHere, Ask, Allow, Deny, Move, Landed, NoMove, Post, Turn, Kept, Local}
+use Rattle.protocol.specs.Spots.{Spot, Nowhere, Runs, Calls, Holds, Pauses, Answered, Asks, Granted, Denied, Travels, InReply, Ended}
+use Rattle.protocol.specs.Does.{Does, ServedBy, Feeds, kept_told}
+use Rattle.protocol.specs.Cluster.{World, for_link, at_front, Goes, events}
+use Rattle.protocol.specs.Needs.{Needs, FreeAt}
+use Rattle.protocol.proofs.Talk.{same_numbers, numbers_same, numbers_other, other_numbers}
+use Rattle.protocol.proofs.Stand.{Step, Path}
 use Rattle.run_laws.specs.Facts.{Facts, fact_own, fact_child, facts}
 use Rattle.run_laws.specs.Outcomes.{outcome_line, ended_line, outcomes, counted_if}
 use Rattle.run_laws.specs.ScriptLaw.{line_of, one_more, commands}

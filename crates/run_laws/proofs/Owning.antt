@@ -1,13 +1,13 @@
 -- Each node owns the contexts of the processes that it holds.
 use Rattle.std.proofs.Common.{◌≡◌, ◌≢◌, ℕ, ◌==◌, Bool, true, false, cond, Option, Some, None, List, [], ◌∷◌, refl, sym, ap, ◌∙◌, subst}
 use Rattle.std.specs.Prelude.{option_map}
-use Rattle.run_tokens.specs.Ops.{Ops, Sound}
-use Rattle.run_tokens.specs.Notes.{Turn, Slot, Context, context, Running, Waiting, Asking}
-use Rattle.run_tokens.specs.Spots.{Spot, Nowhere, Runs, Calls, Holds, Pauses, Answered, Asks, Granted, Denied, Travels, InReply, Ended, site, kept_at}
-use Rattle.run_tokens.specs.Cluster.{World, events}
-use Rattle.run_tokens.proofs.Talk.{numbers_same}
-use Rattle.run_tokens.proofs.Process.{cond_here}
-use Rattle.run_tokens.proofs.Stand.{Stands, Path}
+use Rattle.protocol.specs.Ops.{Ops, Sound}
+use Rattle.protocol.specs.Notes.{Turn, Slot, Context, context, Running, Waiting, Asking}
+use Rattle.protocol.specs.Spots.{Spot, Nowhere, Runs, Calls, Holds, Pauses, Answered, Asks, Granted, Denied, Travels, InReply, Ended, site, kept_at}
+use Rattle.protocol.specs.Cluster.{World, events}
+use Rattle.protocol.proofs.Talk.{numbers_same}
+use Rattle.protocol.proofs.Process.{cond_here}
+use Rattle.protocol.proofs.Stand.{Stands, Path}
 use Rattle.run_laws.specs.Machine.{MachineState}
 use Rattle.run_laws.specs.Facts.{Node, Facts, facts}
 use Rattle.run_laws.specs.Owned.{Owned}

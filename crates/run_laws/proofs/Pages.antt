@@ -3,19 +3,19 @@ use Rattle.std.proofs.Common.{◌≡◌, ◌≢◌, ℕ, zero, suc, ◌+◌, ◌
 use Rattle.std.specs.Prelude.{ℤ}
 use Rattle.std.proofs.lemmas.Bool.Decides.{nat_tests}
 use Rattle.call_table.specs.declared.process.End.{End}
-use Rattle.run_tokens.specs.Ops.{Ops, Sound}
-use Rattle.run_tokens.specs.Deeds.{Manner, Did, Broke, Fell, Paused, Deed, Run, Kill, Bid, Unsent, Other, Steps, Sent, Heed, Held, Served, Got, Poked, Begin, Keep, Missed, Again, Allows, Denies, Depart, Stay, Land, Told, Refused, Closed, Gossips, Strange, pid_of, child_of}
-use Rattle.run_tokens.specs.Notes.{Done, Turn, Body, Kept, Context, Local}
-use Rattle.run_tokens.specs.Spots.{Spot, Nowhere, Runs, Calls, Holds, Pauses, Answered, Asks, Granted, Denied, Travels, InReply, Ended, site, kept_at, goal, reserved, slot_by}
-use Rattle.run_tokens.specs.Home.{give, enter, returned, after}
-use Rattle.run_tokens.specs.Ops.{sum_below}
-use Rattle.run_tokens.specs.Does.{context_pages, reserve_pages, slot_pages, InUse}
-use Rattle.run_tokens.specs.Cluster.{World, events}
-use Rattle.run_tokens.specs.Needs.{Needs, ServedSo, got_spot, asked, mark, keep_in, born_spot}
-use Rattle.run_tokens.proofs.Talk.{same_numbers, other_numbers}
-use Rattle.run_tokens.proofs.Quiet.{child_so, home_so}
-use Rattle.run_tokens.proofs.Coupling.{Part, Own, Child, Rest, part, at_own, at_child, at_rest, got_brings}
-use Rattle.run_tokens.proofs.Stand.{Stands, Step, Path}
+use Rattle.protocol.specs.Ops.{Ops, Sound}
+use Rattle.protocol.specs.Deeds.{Manner, Did, Broke, Fell, Paused, Deed, Run, Kill, Bid, Unsent, Other, Steps, Sent, Heed, Held, Served, Got, Poked, Begin, Keep, Missed, Again, Allows, Denies, Depart, Stay, Land, Told, Refused, Closed, Gossips, Strange, pid_of, child_of}
+use Rattle.protocol.specs.Notes.{Done, Turn, Body, Kept, Context, Local}
+use Rattle.protocol.specs.Spots.{Spot, Nowhere, Runs, Calls, Holds, Pauses, Answered, Asks, Granted, Denied, Travels, InReply, Ended, site, kept_at, goal, reserved, slot_by}
+use Rattle.protocol.specs.Home.{give, enter, returned, after}
+use Rattle.protocol.specs.Ops.{sum_below}
+use Rattle.protocol.specs.Does.{context_pages, reserve_pages, slot_pages, InUse}
+use Rattle.protocol.specs.Cluster.{World, events}
+use Rattle.protocol.specs.Needs.{Needs, ServedSo, got_spot, asked, mark, keep_in, born_spot}
+use Rattle.protocol.proofs.Talk.{same_numbers, other_numbers}
+use Rattle.protocol.proofs.Quiet.{child_so, home_so}
+use Rattle.protocol.proofs.Coupling.{Part, Own, Child, Rest, part, at_own, at_child, at_rest, got_brings}
+use Rattle.protocol.proofs.Stand.{Stands, Step, Path}
 use Rattle.run_laws.specs.Machine.{MachineState}
 use Rattle.run_laws.specs.Pages.{allowed_by, allowed, is_at, pages_of, pages_at, used_pages}
 use Rattle.run_laws.proofs.Facts.{facts_of, path_tells}

@@ -1,19 +1,19 @@
 -- Every run plays: the machine that plays its events agrees with the cluster at each prefix.
 use Rattle.std.proofs.Common.{◌≡◌, ◌≢◌, ℕ, ◌==◌, Bool, true, false, Some, List, [], ◌∷◌, refl, sym, ap, ◌∙◌, subst}
 use Rattle.std.specs.Prelude.{option_and_then}
-use Rattle.run_tokens.specs.Ops.{Ops, Sound, is_child}
-use Rattle.run_tokens.specs.Deeds.{pid_of, child_of}
-use Rattle.run_tokens.specs.Notes.{Turn, Local}
-use Rattle.run_tokens.specs.Spots.{Spot}
-use Rattle.run_tokens.specs.Cluster.{World}
-use Rattle.run_tokens.specs.Needs.{brings, user_at, born_spot, alive, Right}
+use Rattle.protocol.specs.Ops.{Ops, Sound, is_child}
+use Rattle.protocol.specs.Deeds.{pid_of, child_of}
+use Rattle.protocol.specs.Notes.{Turn, Local}
+use Rattle.protocol.specs.Spots.{Spot}
+use Rattle.protocol.specs.Cluster.{World}
+use Rattle.protocol.specs.Needs.{brings, user_at, born_spot, alive, Right}
 use Rattle.run_laws.specs.Schedule.{told_by, told}
 use Rattle.run_laws.specs.Machine.{MachineState, empty}
 use Rattle.run_laws.proofs.Plays.{plays, replay}
-use Rattle.run_tokens.specs.Cluster.{events}
-use Rattle.run_tokens.proofs.Talk.{numbers_same, numbers_other}
-use Rattle.run_tokens.proofs.Coupling.{Part, Own, Child, Rest, part, at_own, at_child, at_rest}
-use Rattle.run_tokens.proofs.Stand.{Stands, Step, Path, child_apart, lives_next}
+use Rattle.protocol.specs.Cluster.{events}
+use Rattle.protocol.proofs.Talk.{numbers_same, numbers_other}
+use Rattle.protocol.proofs.Coupling.{Part, Own, Child, Rest, part, at_own, at_child, at_rest}
+use Rattle.protocol.proofs.Stand.{Stands, Step, Path, child_apart, lives_next}
 use Rattle.run_laws.proofs.Replay.{user_of, PlayedAt, played_at}
 
 module _ (O : Ops) (S : Sound O) where

@@ -1,8 +1,8 @@
 -- How the machine plays a run, event by event.
 use Rattle.std.proofs.Common.{◌≡◌, ℕ, cond, Option, Some, None, List, [], ◌∷◌, ◌++◌, refl, sym, ap, ◌∙◌, subst}
 use Rattle.std.specs.Prelude.{option_and_then}
-use Rattle.run_tokens.specs.Ops.{Ops, typed, has_text}
-use Rattle.run_tokens.specs.Deeds.{Input, Text, Finish, Nothing, Manner, Did, Broke, Fell, Paused, Deed, Run, Kill, Bid, Unsent, Other, Steps, Sent, Heed, Held, Served, Got, Poked, Begin, Keep, Missed, Again, Allows, Denies, Depart, Stay, Land, Told, Refused, Closed, Gossips, Strange, Noted}
+use Rattle.protocol.specs.Ops.{Ops, typed, has_text}
+use Rattle.protocol.specs.Deeds.{Input, Text, Finish, Nothing, Manner, Did, Broke, Fell, Paused, Deed, Run, Kill, Bid, Unsent, Other, Steps, Sent, Heed, Held, Served, Got, Poked, Begin, Keep, Missed, Again, Allows, Denies, Depart, Stay, Land, Told, Refused, Closed, Gossips, Strange, Noted}
 use Rattle.run_laws.specs.Machine.{Step, MachineState, empty, with_kernel, launched, raised, fed, stepped, did, broke, fell, took, machine_step, machine_steps}
 use Rattle.run_laws.specs.Schedule.{call_step, take_step, steps_of, schedule, machine_at, With}
 

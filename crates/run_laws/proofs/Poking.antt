@@ -3,12 +3,12 @@ use Rattle.std.proofs.Common.{◌≡◌, ◌≢◌, ℕ, ◌<◌, ◌==◌, ◌&
 use Rattle.std.specs.Prelude.{nat_lt}
 use Rattle.std.proofs.lemmas.Bool.Decides.{nat_tests}
 use Rattle.std.proofs.lemmas.List.{append-nil}
-use Rattle.run_tokens.specs.Ops.{Ops, Sound, Took, is_child}
-use Rattle.run_tokens.specs.Deeds.{Manner, Did, Broke, Fell, Paused}
-use Rattle.run_tokens.specs.Notes.{is_some, Slot}
-use Rattle.run_tokens.specs.Home.{First, last, last_by, Acts, give, unheld, to_poke, both, in_order as ordered, other_than}
-use Rattle.run_tokens.specs.Does.{pokes_of}
-use Rattle.run_tokens.proofs.Talk.{same_numbers, other_numbers, numbers_same, numbers_other}
+use Rattle.protocol.specs.Ops.{Ops, Sound, Took, is_child}
+use Rattle.protocol.specs.Deeds.{Manner, Did, Broke, Fell, Paused}
+use Rattle.protocol.specs.Notes.{is_some, Slot}
+use Rattle.protocol.specs.Home.{First, last, last_by, Acts, give, unheld, to_poke, both, in_order as ordered, other_than}
+use Rattle.protocol.specs.Does.{pokes_of}
+use Rattle.protocol.proofs.Talk.{same_numbers, other_numbers, numbers_same, numbers_other}
 use Rattle.run_laws.specs.Machine.{Do, Take, Fall, MachineState, listed, raised_in, raised_by}
 use Rattle.run_laws.specs.Schedule.{call_step, take_step}
 use Rattle.run_laws.specs.PokeLaw.{in_order, to_wake}

@@ -7,16 +7,16 @@ use lib.Dec.{leb}
 use Rattle.node_event.specs.declared.script.Order.{Order}
 use Rattle.node_event.specs.declared.script.Order.TheVariants as order
 use Rattle.node_event.specs.declared.script.ScriptLine.{ScriptLine}
-use Rattle.run_tokens.specs.Ops.{Ops, Sound, IsMove}
-use Rattle.run_tokens.specs.Deeds.{order_at, Noted}
-use Rattle.run_tokens.specs.Notes.{Call, Pause, Reply, Ask, Allow, Deny, Move, Post, Turn, Body, Kept, Slot, Running, context, Way, way}
-use Rattle.run_tokens.specs.Spots.{Spot, Nowhere, Runs, Calls, Holds, Pauses, Answered, Asks, Granted, Denied, Travels, InReply, Ended, call_at, slot_by, way_by}
-use Rattle.run_tokens.specs.Cluster.{World, Goes, at_front, events}
-use Rattle.run_tokens.specs.Needs.{brings, Right, alive}
-use Rattle.run_tokens.specs.Rests.{Kind, Retry, RunOn, NextLine, SendHalf, IsHalf, AllRest}
-use Rattle.run_tokens.proofs.Talk.{same_numbers, numbers_same, talk, on_link}
-use Rattle.run_tokens.proofs.Process.{cond_here}
-use Rattle.run_tokens.proofs.Stand.{Stands, Path}
+use Rattle.protocol.specs.Ops.{Ops, Sound, IsMove}
+use Rattle.protocol.specs.Deeds.{order_at, Noted}
+use Rattle.protocol.specs.Notes.{Call, Pause, Reply, Ask, Allow, Deny, Move, Post, Turn, Body, Kept, Slot, Running, context, Way, way}
+use Rattle.protocol.specs.Spots.{Spot, Nowhere, Runs, Calls, Holds, Pauses, Answered, Asks, Granted, Denied, Travels, InReply, Ended, call_at, slot_by, way_by}
+use Rattle.protocol.specs.Cluster.{World, Goes, at_front, events}
+use Rattle.protocol.specs.Needs.{brings, Right, alive}
+use Rattle.protocol.specs.Rests.{Kind, Retry, RunOn, NextLine, SendHalf, IsHalf, AllRest}
+use Rattle.protocol.proofs.Talk.{same_numbers, numbers_same, talk, on_link}
+use Rattle.protocol.proofs.Process.{cond_here}
+use Rattle.protocol.proofs.Stand.{Stands, Path}
 use Rattle.run_laws.specs.Machine.{MachineState}
 use Rattle.run_laws.specs.Schedule.{machine_at, With}
 use Rattle.run_laws.specs.Facts.{Facts, facts, is_held}

@@ -2,17 +2,17 @@
 use Rattle.std.proofs.Common.{arith, ◌≤◌, ◌≡◌, ◌≢◌, ℕ, ◌+◌, ◌==◌, Bool, true, false, cond, Option, Some, None, List, ◌∷◌, refl, sym, ap, ◌∙◌, subst}
 use Rattle.std.proofs.lemmas.Bool.Decides.{nat_tests}
 use Rattle.std.specs.Prelude.{nat_lt, option_and_then, ℤ}
-use Rattle.run_tokens.specs.Ops.{Ops, Sound, Acted, is_child, typed}
-use Rattle.run_tokens.specs.Deeds.{Manner, Did, Broke, Fell, Paused, Deed, Run, Kill, Bid, Unsent, Other, Steps, Sent, Heed, Held, Served, Got, Poked, Begin, Keep, Missed, Again, Allows, Denies, Depart, Stay, Land, Told, Refused, Closed, Gossips, Strange, pid_of, child_of}
-use Rattle.run_tokens.specs.Notes.{Done, Body, Kept, Local}
-use Rattle.run_tokens.specs.Spots.{Spot, Nowhere, Runs, Calls, Holds, Pauses, Answered, Asks, Granted, Denied, Travels, InReply, Ended}
-use Rattle.run_tokens.specs.Home.{First, last, Acts, give, enter, returned, after, value_of}
-use Rattle.run_tokens.specs.Needs.{Needs, ServedSo, ServedCall, ServedPause, got_spot, asked, mark, keep_in, brings, user_at, born_spot, alive, Right}
+use Rattle.protocol.specs.Ops.{Ops, Sound, Acted, is_child, typed}
+use Rattle.protocol.specs.Deeds.{Manner, Did, Broke, Fell, Paused, Deed, Run, Kill, Bid, Unsent, Other, Steps, Sent, Heed, Held, Served, Got, Poked, Begin, Keep, Missed, Again, Allows, Denies, Depart, Stay, Land, Told, Refused, Closed, Gossips, Strange, pid_of, child_of}
+use Rattle.protocol.specs.Notes.{Done, Body, Kept, Local}
+use Rattle.protocol.specs.Spots.{Spot, Nowhere, Runs, Calls, Holds, Pauses, Answered, Asks, Granted, Denied, Travels, InReply, Ended}
+use Rattle.protocol.specs.Home.{First, last, Acts, give, enter, returned, after, value_of}
+use Rattle.protocol.specs.Needs.{Needs, ServedSo, ServedCall, ServedPause, got_spot, asked, mark, keep_in, brings, user_at, born_spot, alive, Right}
 use Rattle.run_laws.specs.Machine.{ReplyGiven, MachineState, with_user, with_kernel, with_reply, with_child}
 use Rattle.run_laws.specs.Schedule.{told_so, told_by}
 use Rattle.run_laws.proofs.Plays.{took_where, served, plays}
-use Rattle.run_tokens.proofs.Talk.{same_numbers, other_numbers}
-use Rattle.run_tokens.proofs.Process.{cond_here, cond_off}
+use Rattle.protocol.proofs.Talk.{same_numbers, other_numbers}
+use Rattle.protocol.proofs.Process.{cond_here, cond_off}
 use Rattle.call_table.specs.declared.process.End.{End}
 
 some_steps : (k : ℕ) → 1 ≤ k → nat_lt 0 k ≡ true

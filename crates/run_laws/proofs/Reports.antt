@@ -1,21 +1,21 @@
 -- Each landing is told at most once, so no process is told more often than the most hops told.
 use Rattle.std.proofs.Common.{◌≡◌, ◌≢◌, ℕ, zero, suc, ◌+◌, ◌<◌, ◌≤◌, ◌==◌, ◌&&◌, ◌⊎◌, inl, inr, Bool, true, false, cond, Option, Some, None, List, [], ◌∷◌, refl, sym, ap, ◌∙◌, subst, arith}
-use Rattle.run_tokens.specs.Ops.{Ops, Sound}
-use Rattle.run_tokens.specs.Deeds.{ForLine, Chosen, Manner, Did, Broke, Fell, Paused, Deed, Run, Kill, Bid, Unsent, Other, Steps, Sent, Heed, Held, Served, Got, Poked, Begin, Keep, Missed, Again, Allows, Denies, Depart, Stay, Land, Told, Refused, Closed, Gossips, Strange, Noted, pid_of}
-use Rattle.run_tokens.specs.Notes.{Done, Note, Call, Pause, Reply, Poke, Half, Go, NotHere, Ask, Allow, Deny, Move, Landed, NoMove, Post, Turn, letter, Body, Kept, Local, Believed, Way, way}
-use Rattle.run_tokens.specs.Spots.{Spot, Nowhere, Travels}
-use Rattle.run_tokens.specs.Cluster.{World, Goes}
-use Rattle.run_tokens.specs.Does.{Does, ServedBy, got_posts}
-use Rattle.run_tokens.specs.Home.{pokes, line_closed, after}
-use Rattle.run_tokens.specs.Needs.{Needs}
-use Rattle.run_tokens.specs.Cluster.{events}
+use Rattle.protocol.specs.Ops.{Ops, Sound}
+use Rattle.protocol.specs.Deeds.{ForLine, Chosen, Manner, Did, Broke, Fell, Paused, Deed, Run, Kill, Bid, Unsent, Other, Steps, Sent, Heed, Held, Served, Got, Poked, Begin, Keep, Missed, Again, Allows, Denies, Depart, Stay, Land, Told, Refused, Closed, Gossips, Strange, Noted, pid_of}
+use Rattle.protocol.specs.Notes.{Done, Note, Call, Pause, Reply, Poke, Half, Go, NotHere, Ask, Allow, Deny, Move, Landed, NoMove, Post, Turn, letter, Body, Kept, Local, Believed, Way, way}
+use Rattle.protocol.specs.Spots.{Spot, Nowhere, Travels}
+use Rattle.protocol.specs.Cluster.{World, Goes}
+use Rattle.protocol.specs.Does.{Does, ServedBy, got_posts}
+use Rattle.protocol.specs.Home.{pokes, line_closed, after}
+use Rattle.protocol.specs.Needs.{Needs}
+use Rattle.protocol.specs.Cluster.{events}
 use Rattle.run_laws.specs.UnderWay.{Moves, moves_own, moves}
 use Rattle.run_laws.proofs.ToldAt.{told_by_hops, told_at}
-use Rattle.run_tokens.proofs.Talk.{same_numbers, other_numbers, numbers_same, numbers_other}
+use Rattle.protocol.proofs.Talk.{same_numbers, other_numbers, numbers_same, numbers_other}
 use Rattle.run_laws.proofs.Family.{words, NoneOf, NotTaken, Under, stays, goes_out, was_under, comes_in}
-use Rattle.run_tokens.proofs.Process.{way_tells, took_way}
-use Rattle.run_tokens.proofs.Own.{takes_in}
-use Rattle.run_tokens.proofs.Stand.{Stands, Step, Path}
+use Rattle.protocol.proofs.Process.{way_tells, took_way}
+use Rattle.protocol.proofs.Own.{takes_in}
+use Rattle.protocol.proofs.Stand.{Stands, Step, Path}
 use Rattle.run_laws.proofs.Moves.{Balanced, path_balanced}
 use Rattle.run_laws.proofs.Trails.{Trails, path_trails, path_lives, hops_grow, told_hops}
 use Rattle.std.specs.Prelude.{ℤ}

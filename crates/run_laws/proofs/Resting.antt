@@ -3,18 +3,18 @@ use Rattle.std.proofs.Common.{◌≡◌, ◌≢◌, ℕ, ◌-◌, ◌<◌, ◌�
 use Rattle.std.specs.Prelude.{slice_get}
 use Rattle.node_event.specs.declared.script.Order.{Order}
 use Rattle.node_event.specs.declared.script.Order.TheVariants as order
-use Rattle.run_tokens.specs.Ops.{Ops, Sound}
-use Rattle.run_tokens.specs.Deeds.{Noted}
-use Rattle.run_tokens.specs.Notes.{Turn, Body, Kept, Slot, Running, context}
-use Rattle.run_tokens.specs.Spots.{Spot, Nowhere, Runs, Calls, Holds, Pauses, Answered, Asks, Granted, Denied, Travels, InReply, Ended, call_at, slot_by}
-use Rattle.run_tokens.specs.Home.{live_of, HasEnded, unheld}
-use Rattle.run_tokens.specs.Needs.{Right, alive}
-use Rattle.run_tokens.specs.Does.{EnabledHere, NoneRuns}
-use Rattle.run_tokens.specs.Cluster.{World, events}
-use Rattle.run_tokens.specs.Rests.{Kind, Retry, RunOn, NextLine, SendHalf, HalfReady, MayGoOn, RunsHere, LineReady, Applies, Finished, Busy}
-use Rattle.run_tokens.proofs.Talk.{same_numbers}
-use Rattle.run_tokens.proofs.Process.{cond_here, context_tells, call_tells}
-use Rattle.run_tokens.proofs.Stand.{Stands, Path}
+use Rattle.protocol.specs.Ops.{Ops, Sound}
+use Rattle.protocol.specs.Deeds.{Noted}
+use Rattle.protocol.specs.Notes.{Turn, Body, Kept, Slot, Running, context}
+use Rattle.protocol.specs.Spots.{Spot, Nowhere, Runs, Calls, Holds, Pauses, Answered, Asks, Granted, Denied, Travels, InReply, Ended, call_at, slot_by}
+use Rattle.protocol.specs.Home.{live_of, HasEnded, unheld}
+use Rattle.protocol.specs.Needs.{Right, alive}
+use Rattle.protocol.specs.Does.{EnabledHere, NoneRuns}
+use Rattle.protocol.specs.Cluster.{World, events}
+use Rattle.protocol.specs.Rests.{Kind, Retry, RunOn, NextLine, SendHalf, HalfReady, MayGoOn, RunsHere, LineReady, Applies, Finished, Busy}
+use Rattle.protocol.proofs.Talk.{same_numbers}
+use Rattle.protocol.proofs.Process.{cond_here, context_tells, call_tells}
+use Rattle.protocol.proofs.Stand.{Stands, Path}
 use Rattle.run_laws.specs.Machine.{MachineState}
 use Rattle.run_laws.specs.Facts.{Node, Facts, facts, is_held}
 use Rattle.run_laws.specs.ScriptLaw.{commands, Enabled}

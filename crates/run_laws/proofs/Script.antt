@@ -4,16 +4,16 @@ use Rattle.std.specs.Prelude.{ℤ, slice_get}
 use Rattle.call_table.specs.declared.process.End.{End}
 use Rattle.node_event.specs.declared.script.Order.{Order}
 use Rattle.node_event.specs.declared.script.Order.TheVariants as order
-use Rattle.run_tokens.specs.Ops.{Ops, Sound}
-use Rattle.run_tokens.specs.Deeds.{Input, Text, Finish, Nothing, Manner, Did, Broke, Fell, Paused, Deed, Run, Kill, Bid, Unsent, Other, Steps, Sent, Heed, Held, Served, Got, Poked, Begin, Keep, Missed, Again, Allows, Denies, Depart, Stay, Land, Told, Refused, Closed, Gossips, Strange, Noted, pid_of}
-use Rattle.run_tokens.specs.Notes.{Progress, SameProgress, served_one, Turn, Slot, Local}
-use Rattle.run_tokens.specs.Spots.{Spot, call_at}
-use Rattle.run_tokens.specs.Home.{live_of, HasEnded, unheld}
-use Rattle.run_tokens.specs.Does.{Does, ServedBy, EnabledHere, Ordered, Feeds}
-use Rattle.run_tokens.specs.Cluster.{World, events}
-use Rattle.run_tokens.specs.Needs.{Needs}
-use Rattle.run_tokens.proofs.Talk.{same_numbers, numbers_same, numbers_other}
-use Rattle.run_tokens.proofs.Stand.{Stands, Step, Path}
+use Rattle.protocol.specs.Ops.{Ops, Sound}
+use Rattle.protocol.specs.Deeds.{Input, Text, Finish, Nothing, Manner, Did, Broke, Fell, Paused, Deed, Run, Kill, Bid, Unsent, Other, Steps, Sent, Heed, Held, Served, Got, Poked, Begin, Keep, Missed, Again, Allows, Denies, Depart, Stay, Land, Told, Refused, Closed, Gossips, Strange, Noted, pid_of}
+use Rattle.protocol.specs.Notes.{Progress, SameProgress, served_one, Turn, Slot, Local}
+use Rattle.protocol.specs.Spots.{Spot, call_at}
+use Rattle.protocol.specs.Home.{live_of, HasEnded, unheld}
+use Rattle.protocol.specs.Does.{Does, ServedBy, EnabledHere, Ordered, Feeds}
+use Rattle.protocol.specs.Cluster.{World, events}
+use Rattle.protocol.specs.Needs.{Needs}
+use Rattle.protocol.proofs.Talk.{same_numbers, numbers_same, numbers_other}
+use Rattle.protocol.proofs.Stand.{Stands, Step, Path}
 use Rattle.run_laws.specs.Machine.{MachineState}
 use Rattle.run_laws.specs.Facts.{Facts, facts, is_held, is_paused}
 use Rattle.run_laws.specs.ScriptLaw.{line_of, one_more, launched_by, commands, launched_in, calls_by, calls_served, Suits, AtHome, Enabled, LaunchedPid, IsNext, CommandAt, ScriptAt}

@@ -1,14 +1,14 @@
 -- No process at which a signal becomes deliverable is missed by the pokes.
 use Rattle.std.proofs.Common.{◌≡◌, ◌≢◌, ℕ, ◌==◌, inl, inr, Bool, true, false, not, cond, Option, Some, None, List, refl, sym, ap, ◌∙◌, subst}
 use Rattle.std.specs.Prelude.{nat_lt, ℤ}
-use Rattle.run_tokens.specs.Ops.{Ops, Sound, is_child}
-use Rattle.run_tokens.specs.Deeds.{Manner, Did, Broke, Fell, Paused, Deed, Run, Kill, Bid, Unsent, Other, Steps, Sent, Heed, Held, Served, Got, Poked, Begin, Keep, Missed, Again, Allows, Denies, Depart, Stay, Land, Told, Refused, Closed, Gossips, Strange}
-use Rattle.run_tokens.specs.Notes.{Slot, Local}
-use Rattle.run_tokens.specs.Spots.{Spot}
-use Rattle.run_tokens.specs.Home.{First, last, last_by, Acts, unheld, to_poke, both, in_order, other_than}
-use Rattle.run_tokens.specs.Does.{pokes_of}
-use Rattle.run_tokens.specs.Needs.{Needs, ServedSo, ServedCall}
-use Rattle.run_tokens.proofs.Talk.{other_numbers, numbers_same, numbers_other}
+use Rattle.protocol.specs.Ops.{Ops, Sound, is_child}
+use Rattle.protocol.specs.Deeds.{Manner, Did, Broke, Fell, Paused, Deed, Run, Kill, Bid, Unsent, Other, Steps, Sent, Heed, Held, Served, Got, Poked, Begin, Keep, Missed, Again, Allows, Denies, Depart, Stay, Land, Told, Refused, Closed, Gossips, Strange}
+use Rattle.protocol.specs.Notes.{Slot, Local}
+use Rattle.protocol.specs.Spots.{Spot}
+use Rattle.protocol.specs.Home.{First, last, last_by, Acts, unheld, to_poke, both, in_order, other_than}
+use Rattle.protocol.specs.Does.{pokes_of}
+use Rattle.protocol.specs.Needs.{Needs, ServedSo, ServedCall}
+use Rattle.protocol.proofs.Talk.{other_numbers, numbers_same, numbers_other}
 use Rattle.run_laws.specs.Machine.{MachineState}
 use Rattle.run_laws.specs.SilentLaw.{Among, SilentAt}
 use Rattle.call_table.specs.declared.process.End.{End}

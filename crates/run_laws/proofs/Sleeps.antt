@@ -2,16 +2,16 @@
 use Rattle.std.proofs.Common.{◌≡◌, ◌≢◌, ℕ, Bool, true, false, cond, Option, Some, None, List, [], ◌∷◌, refl, sym, ap, ◌∙◌, subst}
 use Rattle.std.specs.Prelude.{ℤ}
 use Rattle.call_table.specs.declared.process.End.{End}
-use Rattle.run_tokens.specs.Ops.{Ops, Sound, IsMove}
-use Rattle.run_tokens.specs.Deeds.{Manner, Did, Broke, Fell, Paused, Deed, Run, Kill, Bid, Unsent, Other, Steps, Sent, Heed, Held, Served, Got, Poked, Begin, Keep, Missed, Again, Allows, Denies, Depart, Stay, Land, Told, Refused, Closed, Gossips, Strange, Noted, pid_of, child_of}
-use Rattle.run_tokens.specs.Notes.{Done, Turn, Body, Kept, Local}
-use Rattle.run_tokens.specs.Spots.{Spot, Nowhere, Runs, Calls, Holds, Pauses, Answered, Asks, Granted, Denied, Travels, InReply, Ended}
-use Rattle.run_tokens.specs.Home.{returned, after, done_of, last}
-use Rattle.run_tokens.specs.Cluster.{World, events}
-use Rattle.run_tokens.specs.Needs.{Names, Needs, ServedSo, ServedCall, got_spot, asked, mark, keep_in, born_spot}
-use Rattle.run_tokens.proofs.Talk.{same_numbers, other_numbers}
-use Rattle.run_tokens.proofs.Coupling.{Part, Own, Child, Rest, part, at_own, at_child, at_rest}
-use Rattle.run_tokens.proofs.Stand.{Path, names_at}
+use Rattle.protocol.specs.Ops.{Ops, Sound, IsMove}
+use Rattle.protocol.specs.Deeds.{Manner, Did, Broke, Fell, Paused, Deed, Run, Kill, Bid, Unsent, Other, Steps, Sent, Heed, Held, Served, Got, Poked, Begin, Keep, Missed, Again, Allows, Denies, Depart, Stay, Land, Told, Refused, Closed, Gossips, Strange, Noted, pid_of, child_of}
+use Rattle.protocol.specs.Notes.{Done, Turn, Body, Kept, Local}
+use Rattle.protocol.specs.Spots.{Spot, Nowhere, Runs, Calls, Holds, Pauses, Answered, Asks, Granted, Denied, Travels, InReply, Ended}
+use Rattle.protocol.specs.Home.{returned, after, done_of, last}
+use Rattle.protocol.specs.Cluster.{World, events}
+use Rattle.protocol.specs.Needs.{Names, Needs, ServedSo, ServedCall, got_spot, asked, mark, keep_in, born_spot}
+use Rattle.protocol.proofs.Talk.{same_numbers, other_numbers}
+use Rattle.protocol.proofs.Coupling.{Part, Own, Child, Rest, part, at_own, at_child, at_rest}
+use Rattle.protocol.proofs.Stand.{Path, names_at}
 use Rattle.run_laws.specs.Owned.{stops, as_of_stop, HasUser}
 use Rattle.run_laws.proofs.Plays.{at_replay, with_some}
 use Rattle.run_laws.proofs.Replay.{user_of}

@@ -3,7 +3,7 @@ use Rattle.std.proofs.Common.{◌≡◌, ◌≢◌, ◌<◌, ℕ, zero, suc, ◌
 use Rattle.std.specs.Prelude.{slice_get, nat_lt}
 use Rattle.node_event.specs.declared.script.Order.TheVariants as order
 use Rattle.node_event.specs.declared.script.ScriptLine.{ScriptLine}
-use Rattle.run_tokens.specs.Deeds.{runs_before, feeds_before}
+use Rattle.protocol.specs.Deeds.{runs_before, feeds_before}
 use Rattle.run_laws.specs.SmallMachine.{Program, Thing, Goes, Calls, gone, with_todo, asked}
 use Rattle.run_laws.specs.Histories.{move_script, mover}
 use Rattle.run_laws.specs.Going.{Able}

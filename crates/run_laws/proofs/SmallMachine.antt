@@ -5,12 +5,12 @@ use Rattle.std.proofs.lemmas.Bool.Decides.{nat_tests}
 use Rattle.call_table.specs.declared.process.End.{End}
 use Rattle.call_table.specs.declared.process.End.TheVariants as end
 use Rattle.node_event.specs.declared.script.ScriptLine.{ScriptLine}
-use Rattle.run_tokens.specs.Ops.{Sound, IsMove, Acted, is_child, counted}
-use Rattle.run_tokens.specs.Gossip.{Sight, Choice, IsKnown, IsMovable}
-use Rattle.run_tokens.specs.Deeds.{order_at}
+use Rattle.protocol.specs.Ops.{Sound, IsMove, Acted, is_child, counted}
+use Rattle.protocol.specs.Gossip.{Sight, Choice, IsKnown, IsMovable}
+use Rattle.protocol.specs.Deeds.{order_at}
 use Rattle.run_laws.specs.SmallMachine.{Request, ExitCall, ForkCall, ReadCall, WriteCall, KillCall, FaultAt, Thing, Program, Table, grown, ended, gone, with_todo, living, launch_by, fork_by, hit_by, raised_at, served_by, signal_or, taken_by, no_choice, small_of, small, end_by}
-use Rattle.run_tokens.proofs.Talk.{same_numbers}
-use Rattle.run_tokens.proofs.Process.{cond_here, cond_off}
+use Rattle.protocol.proofs.Talk.{same_numbers}
+use Rattle.protocol.proofs.Process.{cond_here, cond_off}
 
 some_table : (k l : Table) → Some k ≡ Some l → k ≡ l
 some_table k l e = cc

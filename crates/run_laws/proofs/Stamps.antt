@@ -1,9 +1,9 @@
 -- An event's stamp is above its node's clock, and above the stamp of the letter that it takes.
 use Rattle.std.proofs.Common.{ℕ, ◌<◌, ◌≤◌, Option, Some, None, arith}
 use Rattle.std.specs.Prelude.{IfSome}
-use Rattle.run_tokens.specs.Ops.{Ops}
-use Rattle.run_tokens.specs.Notes.{Post, Turn, Local}
-use Rattle.run_tokens.specs.Does.{Makes, next_stamp}
+use Rattle.protocol.specs.Ops.{Ops}
+use Rattle.protocol.specs.Notes.{Post, Turn, Local}
+use Rattle.protocol.specs.Does.{Makes, next_stamp}
 
 module _ (O : Ops) where
   pub later_by : (clock s : ℕ) (o : Option (Post O)) → next_stamp O clock o ≤ s → (clock < s) × IfSome o (λ l. l.stamp < s)

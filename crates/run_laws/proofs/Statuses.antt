@@ -4,7 +4,7 @@ use Rattle.std.specs.Prelude.{option_and_then}
 use Rattle.call_table.specs.declared.process.End.{End}
 use Rattle.call_table.specs.declared.process.End.TheVariants as ends
 use Rattle.call_table.specs.declared.process.PidState.TheVariants as states
-use Rattle.run_tokens.specs.Ops.{Ops, Acted}
+use Rattle.protocol.specs.Ops.{Ops, Acted}
 use Rattle.run_laws.specs.Machine.{MachineState}
 use Rattle.run_laws.specs.Due.{Same}
 use Rattle.run_laws.specs.Ends.{Blocked, blocked_by, blocked_number, end_state, live_state, status}

@@ -3,8 +3,8 @@ use Rattle.std.proofs.Common.{◌≡◌, ℕ, zero, suc, ◌+◌, ◌<◌, ◌�
 use Rattle.std.specs.Prelude.{slice_get}
 use Rattle.node_event.specs.declared.script.Order.TheVariants as order
 use Rattle.node_event.specs.declared.script.ScriptLine.{ScriptLine}
-use Rattle.run_tokens.specs.Ops.{Sound}
-use Rattle.run_tokens.specs.Deeds.{order_at}
+use Rattle.protocol.specs.Ops.{Sound}
+use Rattle.protocol.specs.Deeds.{order_at}
 use Rattle.run_laws.specs.SmallMachine.{ExitCall, ForkCall, ReadCall, WriteCall}
 use Rattle.run_laws.specs.Facts.{Node, Link}
 use Rattle.run_laws.specs.Lawful.{Lawful}

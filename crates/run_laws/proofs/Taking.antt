@@ -3,21 +3,21 @@ use Rattle.std.proofs.Common.{◌≡◌, ◌≢◌, ℕ, ◌+◌, ◌<◌, ◌�
 use Rattle.std.specs.Prelude.{max, ◌-◌}
 use Rattle.std.proofs.lemmas.Bool.Decides.{leb_tells}
 use lib.Dec.{leb}
-use Rattle.run_tokens.specs.Ops.{Ops, Sound, Acted, is_child}
-use Rattle.run_tokens.specs.Deeds.{ForLine, Chosen, Gossips, Manner, Did, Broke, Fell, Paused, Gone, Moving, There, Deed, Sent, Held, Served, Got, Poked, Begin, Keep, Missed, Again, Allows, Denies, Depart, Stay, Land, Told, Refused, Closed, Gossips}
-use Rattle.run_tokens.specs.Notes.{served_one, is_some, Note, Call, Pause, Reply, Poke, Half, Go, NotHere, Ask, Allow, Deny, Move, Landed, NoMove, Done, Post, letter, Turn, Body, Kept, Context, context, State, Running, Waiting, Asking, Slot, Local, Way, way}
-use Rattle.run_tokens.specs.Spots.{Spot, Answered, Granted, Denied, slot_by, way_by, mine}
-use Rattle.run_tokens.specs.Home.{First, Last, first_none, last, done_of, value_of, pokes, born_at, line_closed}
-use Rattle.run_tokens.specs.Does.{Does, Makes, InUse, Loaded, CanMove, seen, Talks, hosts, holds, reserves, lands, same, pokes_of, kept_told, got_context, got_posts, child_context, place_told}
-use Rattle.run_tokens.specs.Cluster.{World, for_link, at_front, Goes}
-use Rattle.run_tokens.proofs.Talk.{same_numbers, numbers_same, numbers_other, talk, on_link}
-use Rattle.run_tokens.proofs.Process.{cond_here, cond_off, cond_same, way_tells}
-use Rattle.run_tokens.proofs.Run.{Bound}
-use Rattle.run_tokens.proofs.Stand.{EachBound, Stands, Path}
-use Rattle.run_tokens.specs.Gossip.{Entry, Gossip, Choice, Movable, gossip_after}
+use Rattle.protocol.specs.Ops.{Ops, Sound, Acted, is_child}
+use Rattle.protocol.specs.Deeds.{ForLine, Chosen, Gossips, Manner, Did, Broke, Fell, Paused, Gone, Moving, There, Deed, Sent, Held, Served, Got, Poked, Begin, Keep, Missed, Again, Allows, Denies, Depart, Stay, Land, Told, Refused, Closed, Gossips}
+use Rattle.protocol.specs.Notes.{served_one, is_some, Note, Call, Pause, Reply, Poke, Half, Go, NotHere, Ask, Allow, Deny, Move, Landed, NoMove, Done, Post, letter, Turn, Body, Kept, Context, context, State, Running, Waiting, Asking, Slot, Local, Way, way}
+use Rattle.protocol.specs.Spots.{Spot, Answered, Granted, Denied, slot_by, way_by, mine}
+use Rattle.protocol.specs.Home.{First, Last, first_none, last, done_of, value_of, pokes, born_at, line_closed}
+use Rattle.protocol.specs.Does.{Does, Makes, InUse, Loaded, CanMove, seen, Talks, hosts, holds, reserves, lands, same, pokes_of, kept_told, got_context, got_posts, child_context, place_told}
+use Rattle.protocol.specs.Cluster.{World, for_link, at_front, Goes}
+use Rattle.protocol.proofs.Talk.{same_numbers, numbers_same, numbers_other, talk, on_link}
+use Rattle.protocol.proofs.Process.{cond_here, cond_off, cond_same, way_tells}
+use Rattle.protocol.proofs.Run.{Bound}
+use Rattle.protocol.proofs.Stand.{EachBound, Stands, Path}
+use Rattle.protocol.specs.Gossip.{Entry, Gossip, Choice, Movable, gossip_after}
 use Rattle.run_laws.proofs.Here.{can_run, loaded, in_use, can_move}
 use Rattle.run_laws.proofs.Near.{far_to}
-use Rattle.run_tokens.proofs.Progress.{itself}
+use Rattle.protocol.proofs.Progress.{itself}
 
 module _ (O : Ops) (S : Sound O) where
   -- a letter lies on the link from its sender to its target
@@ -124,11 +124,11 @@ module _ (O : Ops) (S : Sound O) where
     abbrev Here : ℕ → Option (Context O) → Type 0
     Here p o = (old.slots p).context ≡ o
 
-    poke_none : (p : ℕ) → Rattle.run_tokens.specs.Does.Asleep O (old.slots p).context → Made (Poke p)
+    poke_none : (p : ℕ) → Rattle.protocol.specs.Does.Asleep O (old.slots p).context → Made (Poke p)
     poke_none p asleep = makes (Poke p) (Poked p false) [] (with_slots old.slots) refl
         (record { from = from; stamp = stamp; asleep = asleep; base = record { took = refl; posts = refl; slots = λ q. sym (cond_same (q == p) (old.slots q)) }; still = record { kernel = refl; believed = λ q. refl; progress = refl; gossip = refl } })
 
-    poke_some : (p : ℕ) (b : Body O) (s : State) → Rattle.run_tokens.specs.Does.Awake O s → Here p (Some (context O b s)) → Made (Poke p)
+    poke_some : (p : ℕ) (b : Body O) (s : State) → Rattle.protocol.specs.Does.Awake O s → Here p (Some (context O b s)) → Made (Poke p)
     poke_some p b s awake was = makes (Poke p) (Poked p true) [] (with_slots (put p (hosts O (Some (context O (record b { poked = true }) s))))) refl
         (record { from = from; stamp = stamp; body = b; state = s; was = was; awake = awake; base = record { took = refl; posts = refl; slots = λ q. refl }; still = record { kernel = refl; believed = λ q. refl; progress = refl; gossip = refl } })
 
@@ -137,17 +137,17 @@ module _ (O : Ops) (S : Sound O) where
       where
         at : (b : Body O) (s : State) → Here p (Some (context O b s)) → Made (Poke p)
         at b Running e = poke_some p b Running tt e
-        at b (Waiting x k) e = poke_none p (subst (Rattle.run_tokens.specs.Does.Asleep O) (sym e) (x, k, refl))
+        at b (Waiting x k) e = poke_none p (subst (Rattle.protocol.specs.Does.Asleep O) (sym e) (x, k, refl))
         at b (Asking to line) e = poke_some p b (Asking to line) tt e
 
         go : (o : Option (Context O)) → Here p o → Made (Poke p)
-        go None e = poke_none p (subst (Rattle.run_tokens.specs.Does.Asleep O) (sym e) tt)
+        go None e = poke_none p (subst (Rattle.protocol.specs.Does.Asleep O) (sym e) tt)
         go (Some c) e = at c.body c.state e
 
     go_made : (p to hops line : ℕ) → Made (Go p to hops line)
     go_made p to hops line = go (old.slots p).context refl
       where
-        refused : (why : Rattle.run_tokens.specs.Deeds.Why) → Rattle.run_tokens.specs.Does.RefusedFor O why n to (old.slots p).context → Made (Go p to hops line)
+        refused : (why : Rattle.protocol.specs.Deeds.Why) → Rattle.protocol.specs.Does.RefusedFor O why n to (old.slots p).context → Made (Go p to hops line)
         refused why was = makes (Go p to hops line) (Refused p to why line) (letter O n 0 (max old.clock stamp + 1) (NoMove line) ∷ []) (with_slots old.slots) refl
             (inl (record { from = from; stamp = stamp; hops = hops; was = was; base = record { took = refl; posts = refl; slots = λ q. sym (cond_same (q == p) (old.slots q)) }; still = record { kernel = refl; believed = λ q. refl; progress = refl; gossip = refl } }))
 
@@ -176,7 +176,7 @@ module _ (O : Ops) (S : Sound O) where
     back_made : n ≡ 0 → (p to hops line : ℕ) → Made (NotHere p to hops line)
     back_made home p to hops line = by_live (O.live old.kernel p) refl (leb_tells (old.believed p).hops hops)
       where
-        refused : (why : Rattle.run_tokens.specs.Deeds.Why) → Rattle.run_tokens.specs.Does.NoNews O why p hops old → Made (NotHere p to hops line)
+        refused : (why : Rattle.protocol.specs.Deeds.Why) → Rattle.protocol.specs.Does.NoNews O why p hops old → Made (NotHere p to hops line)
         refused why was = makes (NotHere p to hops line) (Refused p to why line) [] (with_slots old.slots) refl
             (inr (record { home = home; from = from; stamp = stamp; hops = hops; was = was; base = record { took = refl; posts = refl; slots = λ q. sym (cond_same (q == p) (old.slots q)) }; still = record { kernel = refl; believed = λ q. refl; progress = refl; gossip = refl } }))
 

@@ -1,6 +1,6 @@
 -- How often the landings of a process were told.
 use Rattle.std.proofs.Common.{ℕ, ◌+◌, ◌==◌, cond, List, [], ◌∷◌}
-use Rattle.run_tokens.specs.Deeds.{Deed, Told, Noted, pid_of}
+use Rattle.protocol.specs.Deeds.{Deed, Told, Noted, pid_of}
 
 -- how often its landing of this number was told
 abbrev pub told_by_hops : Deed → ℕ → ℕ → ℕ

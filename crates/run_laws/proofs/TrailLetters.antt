@@ -1,12 +1,12 @@
 -- What the letters of a move's errand tell of the places that their process was at, link by link.
 use Rattle.std.proofs.Common.{◌≡◌, ℕ, ◌==◌, ◌&&◌, inl, inr, Bool, true, false, cond, Option, Some, None, List, [], ◌∷◌, ◌++◌, refl, ap, subst, arith}
-use Rattle.run_tokens.specs.Ops.{Ops, Sound}
-use Rattle.run_tokens.specs.Notes.{Note, Call, Pause, Reply, Poke, Half, Go, NotHere, Ask, Allow, Deny, Move, Landed, NoMove, Post, Believed}
-use Rattle.run_tokens.specs.Spots.{Spot, Nowhere, mine}
-use Rattle.run_tokens.specs.Cluster.{for_link}
-use Rattle.run_tokens.specs.Home.{pokes, line_closed}
+use Rattle.protocol.specs.Ops.{Ops, Sound}
+use Rattle.protocol.specs.Notes.{Note, Call, Pause, Reply, Poke, Half, Go, NotHere, Ask, Allow, Deny, Move, Landed, NoMove, Post, Believed}
+use Rattle.protocol.specs.Spots.{Spot, Nowhere, mine}
+use Rattle.protocol.specs.Cluster.{for_link}
+use Rattle.protocol.specs.Home.{pokes, line_closed}
 use Rattle.run_laws.specs.UnderWay.{Moves}
-use Rattle.run_tokens.proofs.Talk.{same_numbers, other_numbers, talk}
+use Rattle.protocol.proofs.Talk.{same_numbers, other_numbers, talk}
 use Rattle.run_laws.proofs.Hops.{Ok}
 
 module _ (O : Ops) (S : Sound O) where

@@ -1,23 +1,23 @@
 -- The letters of moves and home's belief, over every run.
 use Rattle.std.proofs.Common.{◌≡◌, ◌≢◌, ℕ, ◌+◌, ◌<◌, ◌≤◌, ◌==◌, ◌&&◌, ◌⊎◌, inl, inr, Bool, true, false, cond, Option, Some, None, List, [], ◌∷◌, ◌++◌, refl, sym, ap, ◌∙◌, subst, arith}
-use Rattle.run_tokens.specs.Ops.{Ops, Sound, is_child}
-use Rattle.run_tokens.specs.Deeds.{ForLine, Chosen, Manner, Did, Broke, Fell, Paused, Deed, Run, Kill, Bid, Unsent, Other, Steps, Sent, Heed, Held, Served, Got, Poked, Begin, Keep, Missed, Again, Allows, Denies, Depart, Stay, Land, Told, Refused, Closed, Gossips, Strange, pid_of, child_of}
-use Rattle.run_tokens.specs.Notes.{Done, Call, Reply, Poke, Go, Ask, Move, NoMove, Post, Turn, letter, Body, Kept, Local, Believed, way}
-use Rattle.run_tokens.specs.Spots.{Spot, Nowhere, Runs, Calls, Holds, Pauses, Answered, Asks, Granted, Denied, Travels, InReply, Ended, site, way_by, mine}
-use Rattle.run_tokens.specs.Cluster.{World, for_link, at_front, Goes}
-use Rattle.run_tokens.specs.Does.{Does, ServedBy, got_posts, place_told}
-use Rattle.run_tokens.specs.Home.{pokes, after, born_at}
-use Rattle.run_tokens.specs.Needs.{Needs, AwayFrom, brings, born_spot, ServedSo, ServedCall, asked}
-use Rattle.run_tokens.specs.Cluster.{events}
+use Rattle.protocol.specs.Ops.{Ops, Sound, is_child}
+use Rattle.protocol.specs.Deeds.{ForLine, Chosen, Manner, Did, Broke, Fell, Paused, Deed, Run, Kill, Bid, Unsent, Other, Steps, Sent, Heed, Held, Served, Got, Poked, Begin, Keep, Missed, Again, Allows, Denies, Depart, Stay, Land, Told, Refused, Closed, Gossips, Strange, pid_of, child_of}
+use Rattle.protocol.specs.Notes.{Done, Call, Reply, Poke, Go, Ask, Move, NoMove, Post, Turn, letter, Body, Kept, Local, Believed, way}
+use Rattle.protocol.specs.Spots.{Spot, Nowhere, Runs, Calls, Holds, Pauses, Answered, Asks, Granted, Denied, Travels, InReply, Ended, site, way_by, mine}
+use Rattle.protocol.specs.Cluster.{World, for_link, at_front, Goes}
+use Rattle.protocol.specs.Does.{Does, ServedBy, got_posts, place_told}
+use Rattle.protocol.specs.Home.{pokes, after, born_at}
+use Rattle.protocol.specs.Needs.{Needs, AwayFrom, brings, born_spot, ServedSo, ServedCall, asked}
+use Rattle.protocol.specs.Cluster.{events}
 use Rattle.run_laws.specs.UnderWay.{Moves, moves_own, moves}
-use Rattle.run_tokens.proofs.Talk.{same_numbers, other_numbers, numbers_same, numbers_other, talk, on_link, TakenOf, of_other, pokes_loose}
-use Rattle.run_tokens.proofs.Process.{cond_here, cond_off, took_way, way_tells, call_tells}
-use Rattle.run_tokens.proofs.Own.{takes_in, in_out}
-use Rattle.run_tokens.proofs.Coupling.{Part, Own, Child, Rest, part, got_brings}
-use Rattle.run_tokens.proofs.Quiet.{nowhere, nowhere_so, counts, child_so, home_so, count_typed}
-use Rattle.run_tokens.proofs.Stand.{Stands, Step, Path, child_apart}
+use Rattle.protocol.proofs.Talk.{same_numbers, other_numbers, numbers_same, numbers_other, talk, on_link, TakenOf, of_other, pokes_loose}
+use Rattle.protocol.proofs.Process.{cond_here, cond_off, took_way, way_tells, call_tells}
+use Rattle.protocol.proofs.Own.{takes_in, in_out}
+use Rattle.protocol.proofs.Coupling.{Part, Own, Child, Rest, part, got_brings}
+use Rattle.protocol.proofs.Quiet.{nowhere, nowhere_so, counts, child_so, home_so, count_typed}
+use Rattle.protocol.proofs.Stand.{Stands, Step, Path, child_apart}
 use Rattle.run_laws.proofs.Moves.{Balanced, path_balanced}
-use Rattle.run_tokens.specs.Needs.{alive}
+use Rattle.protocol.specs.Needs.{alive}
 use Rattle.run_laws.proofs.Played.{path_played}
 use Rattle.run_laws.proofs.Hops.{AtPlace, Ok, Inside, asked_brings, was_inside, inside_next, ok_next, step_bring, was_child, is_own, is_rest, is_born, moves_of}
 use Rattle.std.specs.Prelude.{ℤ}

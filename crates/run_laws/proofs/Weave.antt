@@ -1,20 +1,20 @@
 -- What nodes did by themselves, woven by stamps, is a run of the whole cluster.
 use Rattle.std.proofs.Common.{◌≡◌, ◌≢◌, ℕ, ◌<◌, ◌≤◌, ◌==◌, ◌&&◌, inl, inr, Bool, true, false, cond, Option, Some, None, List, [], ◌∷◌, ◌++◌, refl, sym, ap, ◌∙◌, subst, arith, append_assoc, IfSome}
 use Rattle.std.proofs.lemmas.List.{append-nil}
-use Rattle.run_tokens.specs.Cluster.{events}
-use Rattle.run_tokens.specs.Notes.{Local}
-use Rattle.run_tokens.specs.Does.{Makes, Does, Base, ServedBy, got_posts}
-use Rattle.run_tokens.specs.Cluster.{World, for_link, at_front}
+use Rattle.protocol.specs.Cluster.{events}
+use Rattle.protocol.specs.Notes.{Local}
+use Rattle.protocol.specs.Does.{Makes, Does, Base, ServedBy, got_posts}
+use Rattle.protocol.specs.Cluster.{World, for_link, at_front}
 use Rattle.run_laws.specs.Carried.{CarriedRun, Begins, posted_on, taken_on, Carried, own, own_events, Alone, Marked, Later, Sorted, Did, Each}
-use Rattle.run_tokens.proofs.Talk.{same_numbers, numbers_same}
+use Rattle.protocol.proofs.Talk.{same_numbers, numbers_same}
 use Rattle.run_laws.proofs.Carried.{Lies, carried_reached}
 use Rattle.run_laws.proofs.Stamps.{later_by}
-use Rattle.run_tokens.specs.Ops.{Ops}
-use Rattle.run_tokens.specs.Deeds.{ForLine, Chosen, Manner, Did as DidCall, Broke, Fell, Paused, Deed, Run, Kill, Bid, Unsent, Other, Steps, Sent, Heed, Held, Served, Got, Poked, Begin, Keep, Missed, Again, Allows, Denies, Depart, Stay, Land, Told, Refused, Closed, Gossips, Strange, Noted}
-use Rattle.run_tokens.specs.Home.{after, pokes, line_closed}
+use Rattle.protocol.specs.Ops.{Ops}
+use Rattle.protocol.specs.Deeds.{ForLine, Chosen, Manner, Did as DidCall, Broke, Fell, Paused, Deed, Run, Kill, Bid, Unsent, Other, Steps, Sent, Heed, Held, Served, Got, Poked, Begin, Keep, Missed, Again, Allows, Denies, Depart, Stay, Land, Told, Refused, Closed, Gossips, Strange, Noted}
+use Rattle.protocol.specs.Home.{after, pokes, line_closed}
 use Rattle.std.specs.Prelude.{ℤ}
 use Rattle.call_table.specs.declared.process.End.{End}
-use Rattle.run_tokens.specs.Notes.{Believed, Done, Poke, Ask, NoMove, letter, Body, Kept, Slot, Post, Turn}
+use Rattle.protocol.specs.Notes.{Believed, Done, Poke, Ask, NoMove, letter, Body, Kept, Slot, Post, Turn}
 
 le_self : (n : ℕ) → n ≤ n
 le_self n = omega arith

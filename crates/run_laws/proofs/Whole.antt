@@ -1,12 +1,12 @@
 -- The whole theorem over every run.
 use Rattle.std.proofs.Common.{List, ap, ◌∙◌}
-use Rattle.run_tokens.specs.Ops.{Ops, Sound}
-use Rattle.run_tokens.specs.Notes.{Turn, Running}
-use Rattle.run_tokens.specs.Cluster.{World, Reached}
-use Rattle.run_tokens.specs.Cluster.{events}
+use Rattle.protocol.specs.Ops.{Ops, Sound}
+use Rattle.protocol.specs.Notes.{Turn, Running}
+use Rattle.protocol.specs.Cluster.{World, Reached}
+use Rattle.protocol.specs.Cluster.{events}
 use Rattle.run_laws.specs.Whole.{Holds}
-use Rattle.run_tokens.proofs.Process.{context_tells}
-use Rattle.run_tokens.proofs.Stand.{reached_stands}
+use Rattle.protocol.proofs.Process.{context_tells}
+use Rattle.protocol.proofs.Stand.{reached_stands}
 use Rattle.run_laws.proofs.Replay.{user_of}
 use Rattle.run_laws.proofs.Played.{path_played}
 use Rattle.run_laws.proofs.Lawful.{path_lawful, path_silent, path_placed}

@@ -2,15 +2,15 @@
 use Rattle.std.proofs.Common.{◌≡◌, ℕ, ◌+◌, ◌==◌, ◌&&◌, inl, Bool, true, false, cond, Some, None, List, [], ◌∷◌, refl, sym, ap, arith}
 use Rattle.std.specs.Prelude.{ℤ, pos}
 use Rattle.call_table.specs.declared.process.End.TheVariants as end
-use Rattle.run_tokens.specs.Ops.{Acted, is_child}
-use Rattle.run_tokens.specs.Gossip.{Entry, told_places, gossip_after}
-use Rattle.run_tokens.specs.Deeds.{Did, ForLine, Run, Bid, Sent, Served, Got, Begin, Allows, Depart, Land, Told, Gossips}
-use Rattle.run_tokens.specs.Notes.{Done, Call, Reply, Go, Half, Ask, Allow, Move, Landed, letter, Turn, Body, fresh, context, Running, Waiting, Asking, Slot, Local, served_one}
-use Rattle.run_tokens.specs.Home.{First, last, done_of, returned, born_at}
-use Rattle.run_tokens.specs.Does.{slot_pages, hosts, reserves, lands, same, got_context, child_context, place_told}
-use Rattle.run_tokens.specs.Cluster.{World, Goes, Reached}
-use Rattle.run_tokens.proofs.Process.{cond_off, cond_same}
-use Rattle.run_tokens.proofs.Progress.{itself}
+use Rattle.protocol.specs.Ops.{Acted, is_child}
+use Rattle.protocol.specs.Gossip.{Entry, told_places, gossip_after}
+use Rattle.protocol.specs.Deeds.{Did, ForLine, Run, Bid, Sent, Served, Got, Begin, Allows, Depart, Land, Told, Gossips}
+use Rattle.protocol.specs.Notes.{Done, Call, Reply, Go, Half, Ask, Allow, Move, Landed, letter, Turn, Body, fresh, context, Running, Waiting, Asking, Slot, Local, served_one}
+use Rattle.protocol.specs.Home.{First, last, done_of, returned, born_at}
+use Rattle.protocol.specs.Does.{slot_pages, hosts, reserves, lands, same, got_context, child_context, place_told}
+use Rattle.protocol.specs.Cluster.{World, Goes, Reached}
+use Rattle.protocol.proofs.Process.{cond_off, cond_same}
+use Rattle.protocol.proofs.Progress.{itself}
 use Rattle.run_laws.specs.Schedule.{the_machine}
 use Rattle.run_laws.specs.SmallMachine.{ExitCall, ForkCall, Table, new_table, grown, ended, exit_by, fork_by}
 use Rattle.run_laws.specs.Histories.{read, move_script}

@@ -1,6 +1,6 @@
 -- Asking: a node decides on a process that asks it, and the process then departs to the node that allowed it, or stays.
 use Rattle.std.specs.Prelude.{◌≡◌, ℕ, true, false, Some, None, List, [], ◌∷◌}
-use Rattle.run_tokens.specs.Deeds.{Deed, Allows, Denies, Depart, Stay, Noted, pid_of}
+use Rattle.protocol.specs.Deeds.{Deed, Allows, Denies, Depart, Stay, Noted, pid_of}
 use Rattle.run_laws.specs.Facts.{Node, Facts, facts}
 
 -- the process is held by node `from`, asks node n, and has no decision yet

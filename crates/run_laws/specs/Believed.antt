@@ -1,8 +1,8 @@
 -- Where home believes a process to be: where it was told of with the most hops, else where it was born.
 use Rattle.std.specs.Prelude.{ℕ, ◌==◌, nat_lt, cond, Option, Some, None, List, [], ◌∷◌}
-use Rattle.run_tokens.specs.Ops.{is_child}
-use Rattle.run_tokens.specs.Deeds.{Deed, Run, Served, Told, Noted}
-use Rattle.run_tokens.specs.Notes.{Believed}
+use Rattle.protocol.specs.Ops.{is_child}
+use Rattle.protocol.specs.Deeds.{Deed, Run, Served, Told, Noted}
+use Rattle.protocol.specs.Notes.{Believed}
 use Rattle.run_laws.specs.Facts.{Place, Node, facts}
 
 -- of equal hops the first one told

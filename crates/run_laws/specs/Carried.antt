@@ -1,11 +1,11 @@
 -- What each node did by itself and what each link lists; and when a list of turns, the newest first, is carried by its links. No order is assumed but that of
 -- each node and of each link.
 use Rattle.std.specs.Prelude.{◌≡◌, ℕ, ◌<◌, ◌⊎◌, ◌==◌, cond, List, [], ◌∷◌, ◌++◌, IfSome}
-use Rattle.run_tokens.specs.Ops.{Ops}
-use Rattle.run_tokens.specs.Deeds.{Deed, Strange, Noted}
-use Rattle.run_tokens.specs.Notes.{Post, Turn, Local}
-use Rattle.run_tokens.specs.Does.{Makes}
-use Rattle.run_tokens.specs.Cluster.{World, for_link, at_front, Fresh, Reached, events}
+use Rattle.protocol.specs.Ops.{Ops}
+use Rattle.protocol.specs.Deeds.{Deed, Strange, Noted}
+use Rattle.protocol.specs.Notes.{Post, Turn, Local}
+use Rattle.protocol.specs.Does.{Makes}
+use Rattle.protocol.specs.Cluster.{World, for_link, at_front, Fresh, Reached, events}
 
 -- by the list's own recursion, so that it opens with the list
 abbrev pub Each : {A : Type 0} → (A → Type 0) → List A → Type 0

@@ -1,9 +1,9 @@
 -- Choice: at each half that is sent or heard the choice is one that the policy gives on what its node then sees, and none where it gives none.
 use Rattle.std.specs.Prelude.{List, [], ◌∷◌}
-use Rattle.run_tokens.specs.Ops.{Ops}
-use Rattle.run_tokens.specs.Gossip.{Sight, Talk, Silent, Stepping, Talking, talk_of}
-use Rattle.run_tokens.specs.Deeds.{Noted}
-use Rattle.run_tokens.specs.Does.{seen}
+use Rattle.protocol.specs.Ops.{Ops}
+use Rattle.protocol.specs.Gossip.{Sight, Talk, Silent, Stepping, Talking, talk_of}
+use Rattle.protocol.specs.Deeds.{Noted}
+use Rattle.protocol.specs.Does.{seen}
 use Rattle.run_laws.specs.Schedule.{the_machine}
 use Rattle.run_laws.specs.Loads.{own_entry, movable_at}
 use Rattle.run_laws.specs.Vectors.{vector_of}

@@ -1,11 +1,11 @@
 -- When an event is due at a node, said from the events and the machine.
 use Rattle.std.specs.Prelude.{◌≡◌, ◌≢◌, ◌⊎◌, ◌<◌, ℕ, true, Some, None, List, length, slice_get}
 use Rattle.node_event.specs.declared.script.ScriptLine.{ScriptLine}
-use Rattle.run_tokens.specs.Ops.{Ops}
-use Rattle.run_tokens.specs.Deeds.{Noted}
-use Rattle.run_tokens.specs.Notes.{Turn}
-use Rattle.run_tokens.specs.Cluster.{World}
-use Rattle.run_tokens.specs.Rests.{Kind, Retry, RunOn, NextLine, SendHalf, Awaits}
+use Rattle.protocol.specs.Ops.{Ops}
+use Rattle.protocol.specs.Deeds.{Noted}
+use Rattle.protocol.specs.Notes.{Turn}
+use Rattle.protocol.specs.Cluster.{World}
+use Rattle.protocol.specs.Rests.{Kind, Retry, RunOn, NextLine, SendHalf, Awaits}
 use Rattle.run_laws.specs.Machine.{MachineState}
 use Rattle.run_laws.specs.Facts.{facts, is_held}
 use Rattle.run_laws.specs.Loads.{IsFree}

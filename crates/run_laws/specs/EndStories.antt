@@ -6,10 +6,10 @@ use Rattle.node_event.specs.declared.event.What.TheVariants as what
 use Rattle.node_event.specs.declared.event.Way.TheVariants as way
 use Rattle.node_event.specs.declared.script.Order.TheVariants as order
 use Rattle.node_event.specs.declared.script.ScriptLine.{ScriptLine}
-use Rattle.run_tokens.specs.Ops.{Ops}
-use Rattle.run_tokens.specs.Deeds.{Noted}
-use Rattle.run_tokens.specs.Cluster.{World}
-use Rattle.run_tokens.specs.Rests.{Kind, Retry}
+use Rattle.protocol.specs.Ops.{Ops}
+use Rattle.protocol.specs.Deeds.{Noted}
+use Rattle.protocol.specs.Cluster.{World}
+use Rattle.protocol.specs.Rests.{Kind, Retry}
 use Rattle.run_laws.specs.Machine.{MachineState}
 use Rattle.run_laws.specs.Schedule.{machine_at, With}
 use Rattle.run_laws.specs.Outcomes.{outcomes}

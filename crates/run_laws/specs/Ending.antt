@@ -2,12 +2,12 @@
 use Rattle.std.specs.Prelude.{◌≡◌, ◌≤◌, false, ◌<◌, ℕ, Some, None, List, ◌∷◌}
 use Rattle.call_table.specs.declared.process.End.{End}
 use Rattle.call_table.specs.declared.process.PidState.TheVariants as states
-use Rattle.run_tokens.specs.Ops.{Ops}
-use Rattle.run_tokens.specs.Deeds.{Noted}
-use Rattle.run_tokens.specs.Notes.{Post, Turn, Local}
-use Rattle.run_tokens.specs.Does.{Makes}
-use Rattle.run_tokens.specs.Cluster.{World, Goes}
-use Rattle.run_tokens.specs.Rests.{Kind, Applies, IsHalf, Rests, Finished, Busy, AllRest}
+use Rattle.protocol.specs.Ops.{Ops}
+use Rattle.protocol.specs.Deeds.{Noted}
+use Rattle.protocol.specs.Notes.{Post, Turn, Local}
+use Rattle.protocol.specs.Does.{Makes}
+use Rattle.protocol.specs.Cluster.{World, Goes}
+use Rattle.protocol.specs.Rests.{Kind, Applies, IsHalf, Rests, Finished, Busy, AllRest}
 use Rattle.run_laws.specs.Machine.{MachineState, play}
 use Rattle.run_laws.specs.Schedule.{schedule}
 use Rattle.run_laws.specs.Due.{Same, DueAs, Due, LeastFull, IsFull}

@@ -5,8 +5,8 @@ use Rattle.call_table.specs.declared.process.End.TheVariants as ends
 use Rattle.call_table.specs.declared.process.PidState.{PidState}
 use Rattle.call_table.specs.declared.process.PidState.TheVariants as states
 use Rattle.node_event.specs.declared.script.Order.TheVariants as order
-use Rattle.run_tokens.specs.Ops.{Ops, Acted, IsMove}
-use Rattle.run_tokens.specs.Deeds.{Noted}
+use Rattle.protocol.specs.Ops.{Ops, Acted, IsMove}
+use Rattle.protocol.specs.Deeds.{Noted}
 use Rattle.run_laws.specs.Machine.{MachineState}
 use Rattle.run_laws.specs.Facts.{facts}
 use Rattle.run_laws.specs.ScriptLaw.{commands}

@@ -1,7 +1,7 @@
 -- All that the events of a run tell of one process. The events stand the newest first.
 use Rattle.std.specs.Prelude.{ℕ, ◌+◌, ◌==◌, ◌&&◌, ◌||◌, Bool, true, false, not, cond, Option, Some, None, List, [], ◌∷◌}
-use Rattle.run_tokens.specs.Ops.{is_child}
-use Rattle.run_tokens.specs.Deeds.{Manner, Paused, KeptTold, line_for, Deed, Run, Sent, Heed, Held, Served, Got, Poked, Begin, Keep, Allows, Denies, Depart, Stay, Land, Noted, pid_of, child_of}
+use Rattle.protocol.specs.Ops.{is_child}
+use Rattle.protocol.specs.Deeds.{Manner, Paused, KeptTold, line_for, Deed, Run, Sent, Heed, Held, Served, Got, Poked, Begin, Keep, Allows, Denies, Depart, Stay, Land, Noted, pid_of, child_of}
 
 -- at a node, between two nodes, or in the answer of the fork that makes it
 pub data Place : Type 0 where

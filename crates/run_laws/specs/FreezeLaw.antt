@@ -1,6 +1,6 @@
 -- Freeze: while a process waits or asks, nothing but its answer happens to it.
 use Rattle.std.specs.Prelude.{◌≡◌, ℕ, Bool, true, false, Option, Some, None, List, [], ◌∷◌}
-use Rattle.run_tokens.specs.Deeds.{KeptTold, Deed, Steps, Sent, Heed, Got, Begin, Keep, Depart, Stay, Noted, pid_of}
+use Rattle.protocol.specs.Deeds.{KeptTold, Deed, Steps, Sent, Heed, Got, Begin, Keep, Depart, Stay, Noted, pid_of}
 use Rattle.run_laws.specs.Facts.{Facts, facts}
 
 abbrev pub kept_target : Option KeptTold → Option ℕ

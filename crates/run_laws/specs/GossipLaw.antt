@@ -1,9 +1,9 @@
 -- Gossip: of two nodes or more none goes on for 17 quanta of steps without a half; a half is one that is due, to another node; and one that is heard was sent.
 use Rattle.std.specs.Prelude.{◌≢◌, ℕ, ◌<◌, ◌≤◌, true, false, List, [], ◌∷◌}
-use Rattle.run_tokens.specs.Ops.{Ops}
-use Rattle.run_tokens.specs.Gossip.{Talk, Silent, Stepping, Talking, talk_of}
-use Rattle.run_tokens.specs.Deeds.{Noted}
-use Rattle.run_tokens.specs.Does.{HalfDueTo}
+use Rattle.protocol.specs.Ops.{Ops}
+use Rattle.protocol.specs.Gossip.{Talk, Silent, Stepping, Talking, talk_of}
+use Rattle.protocol.specs.Deeds.{Noted}
+use Rattle.protocol.specs.Does.{HalfDueTo}
 use Rattle.run_laws.specs.Machine.{MachineState}
 use Rattle.run_laws.specs.Schedule.{the_machine}
 use Rattle.run_laws.specs.Pages.{free_pages}

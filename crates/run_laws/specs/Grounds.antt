@@ -1,8 +1,8 @@
 -- The grounds of each decision and each refusal, at its own prefix.
 use Rattle.std.specs.Prelude.{◌≡◌, ℕ, ◌<◌, ◌≤◌, Bool, true, false, Some, List, [], ◌∷◌}
-use Rattle.run_tokens.specs.Ops.{Ops}
-use Rattle.run_tokens.specs.Deeds.{Why, Gone, Moving, There, Deed, Bid, Unsent, Got, Allows, Denies, Stay, Refused, Closed, Noted}
-use Rattle.run_tokens.specs.Home.{HasEnded, UnsentFor}
+use Rattle.protocol.specs.Ops.{Ops}
+use Rattle.protocol.specs.Deeds.{Why, Gone, Moving, There, Deed, Bid, Unsent, Got, Allows, Denies, Stay, Refused, Closed, Noted}
+use Rattle.protocol.specs.Home.{HasEnded, UnsentFor}
 use Rattle.run_laws.specs.Machine.{MachineState}
 use Rattle.run_laws.specs.Schedule.{machine_at, With}
 use Rattle.run_laws.specs.Facts.{Node, facts}

@@ -1,6 +1,6 @@
 -- Heeding: a process that was poked, or that was told of more, pauses before it does anything else.
 use Rattle.std.specs.Prelude.{◌≡◌, ℕ, true, false, List, [], ◌∷◌}
-use Rattle.run_tokens.specs.Deeds.{Deed, Steps, Sent, Heed, Poked, Noted, pid_of}
+use Rattle.protocol.specs.Deeds.{Deed, Steps, Sent, Heed, Poked, Noted, pid_of}
 use Rattle.run_laws.specs.Facts.{Node, Facts, facts}
 
 -- this node holds it, and it does not wait

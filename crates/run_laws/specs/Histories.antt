@@ -9,8 +9,8 @@ use Rattle.node_event.specs.declared.event.Refusal.TheVariants as refusal
 use Rattle.node_event.specs.declared.script.Order.{Order}
 use Rattle.node_event.specs.declared.script.Order.TheVariants as order
 use Rattle.node_event.specs.declared.script.ScriptLine.{ScriptLine}
-use Rattle.run_tokens.specs.Ops.{Ops}
-use Rattle.run_tokens.specs.Deeds.{Noted, all_noted}
+use Rattle.protocol.specs.Ops.{Ops}
+use Rattle.protocol.specs.Deeds.{Noted, all_noted}
 use Rattle.run_laws.specs.SmallMachine.{ExitCall, ForkCall, ReadCall, WriteCall, Thing, Goes, Calls, Program, no_choice, small_of, small}
 
 abbrev pub at : ℕ → ℕ → What → Event

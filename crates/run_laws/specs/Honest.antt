@@ -1,8 +1,8 @@
 -- Honest: each entry of each vector tells the load and the free pages that its node had right after its event of that stamp.
 use Rattle.std.specs.Prelude.{◌≡◌, ℕ, ◌⊎◌, Option, Some, None, List, [], ◌∷◌}
-use Rattle.run_tokens.specs.Ops.{Ops}
-use Rattle.run_tokens.specs.Gossip.{Entry}
-use Rattle.run_tokens.specs.Deeds.{Noted}
+use Rattle.protocol.specs.Ops.{Ops}
+use Rattle.protocol.specs.Gossip.{Entry}
+use Rattle.protocol.specs.Deeds.{Noted}
 use Rattle.run_laws.specs.Schedule.{the_machine}
 use Rattle.run_laws.specs.Loads.{own_entry}
 use Rattle.run_laws.specs.Vectors.{vector_of}

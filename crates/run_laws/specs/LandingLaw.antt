@@ -1,6 +1,6 @@
 -- Landings: home is told of each landing as it was: at which node, from which, the how manieth of its process, and for which line.
 use Rattle.std.specs.Prelude.{◌≡◌, ℕ, ◌+◌, ◌==◌, ◌&&◌, cond, Option, Some, None, List, [], ◌∷◌}
-use Rattle.run_tokens.specs.Deeds.{Deed, Land, Told, Noted}
+use Rattle.protocol.specs.Deeds.{Deed, Land, Told, Noted}
 use Rattle.run_laws.specs.Facts.{facts}
 use Rattle.run_laws.specs.UnderWay.{moves}
 

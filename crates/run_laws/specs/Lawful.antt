@@ -1,7 +1,7 @@
 -- A run is lawful: each law holds at every event, after those before it.
 use Rattle.std.specs.Prelude.{List}
-use Rattle.run_tokens.specs.Ops.{Ops}
-use Rattle.run_tokens.specs.Deeds.{Noted}
+use Rattle.protocol.specs.Ops.{Ops}
+use Rattle.protocol.specs.Deeds.{Noted}
 use Rattle.run_laws.specs.ScriptLaw.{ScriptLaw}
 use Rattle.run_laws.specs.PlaceLaw.{PlaceLaw}
 use Rattle.run_laws.specs.NewsLaw.{NewsLaw}

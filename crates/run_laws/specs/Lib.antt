@@ -37,3 +37,4 @@ pub mod ChoiceLaw
 pub mod Honest
 pub mod GossipStories
 pub mod WholeStory
+pub mod OneNode

@@ -1,8 +1,8 @@
 -- What a node has at a moment of a run, by the events and the machine: the processes that it holds, those that run there, and what it tells of itself.
 use Rattle.std.specs.Prelude.{◌≡◌, ℕ, ◌+◌, true, false, cond, Option, List, [], ◌∷◌}
-use Rattle.run_tokens.specs.Ops.{Ops, sum_below, one_if}
-use Rattle.run_tokens.specs.Gossip.{Entry, Movable, listed_below}
-use Rattle.run_tokens.specs.Deeds.{Noted}
+use Rattle.protocol.specs.Ops.{Ops, sum_below, one_if}
+use Rattle.protocol.specs.Gossip.{Entry, Movable, listed_below}
+use Rattle.protocol.specs.Deeds.{Noted}
 use Rattle.run_laws.specs.Machine.{MachineState}
 use Rattle.run_laws.specs.Facts.{Node, Facts, facts}
 use Rattle.run_laws.specs.Pages.{is_at, pages_of, free_pages}

@@ -1,6 +1,6 @@
 -- The machine of one node: one kernel, the user state of each pid ever given, and the replies. It knows no node and no letter.
 use Rattle.std.specs.Prelude.{ℕ, ◌+◌, ◌==◌, ℤ, nat_lt, cond, Option, Some, None, List, [], ◌∷◌, ◌++◌, option_and_then}
-use Rattle.run_tokens.specs.Ops.{Ops, Acted}
+use Rattle.protocol.specs.Ops.{Ops, Acted}
 
 pub record ReplyGiven : Type 0 where
   pub pid : ℕ

@@ -1,7 +1,7 @@
 -- The lines of moves: an event that names a line of the script as that of a move has the process and the target that the line has.
 use Rattle.std.specs.Prelude.{List, [], ◌∷◌}
-use Rattle.run_tokens.specs.Ops.{Ops, IsMove}
-use Rattle.run_tokens.specs.Deeds.{ForLine, Deed, Begin, Keep, Missed, Again, Refused, Noted}
+use Rattle.protocol.specs.Ops.{Ops, IsMove}
+use Rattle.protocol.specs.Deeds.{ForLine, Deed, Begin, Keep, Missed, Again, Refused, Noted}
 
 module _ (O : Ops) where
   abbrev pub MoveLineAt : Deed → Type 0

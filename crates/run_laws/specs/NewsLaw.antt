@@ -1,8 +1,8 @@
 -- News: home asks again for a move only of a live process, at its believed place, and only where a landing with more hops was told since it last asked for that line.
 use Rattle.std.specs.Prelude.{◌≡◌, ℕ, ◌==◌, ◌&&◌, ◌||◌, nat_lt, Bool, true, false, not, Option, Some, None, List, [], ◌∷◌}
-use Rattle.run_tokens.specs.Ops.{Ops}
-use Rattle.run_tokens.specs.Deeds.{Deed, Run, Kill, Bid, Unsent, Other, Again, Told, Noted}
-use Rattle.run_tokens.specs.Notes.{Believed}
+use Rattle.protocol.specs.Ops.{Ops}
+use Rattle.protocol.specs.Deeds.{Deed, Run, Kill, Bid, Unsent, Other, Again, Told, Noted}
+use Rattle.protocol.specs.Notes.{Believed}
 use Rattle.run_laws.specs.Machine.{MachineState}
 use Rattle.run_laws.specs.Schedule.{machine_at, With}
 use Rattle.run_laws.specs.Believed.{best_told, believed_place}

@@ -1,8 +1,8 @@
 -- Once: each call that is sent is served once before its answer comes, and each pause by a pause alone.
 use Rattle.std.specs.Prelude.{◌≡◌, ◌≢◌, ℕ, ◌≤◌, ◌⊎◌, ℤ, true, false, Option, Some, None, List, [], ◌∷◌}
 use Rattle.call_table.specs.declared.process.End.{End}
-use Rattle.run_tokens.specs.Ops.{Ops}
-use Rattle.run_tokens.specs.Deeds.{Manner, Fell, Paused, Deed, Steps, Sent, Held, Served, Got, Noted, pid_of}
+use Rattle.protocol.specs.Ops.{Ops}
+use Rattle.protocol.specs.Deeds.{Manner, Fell, Paused, Deed, Steps, Sent, Held, Served, Got, Noted, pid_of}
 use Rattle.run_laws.specs.Machine.{MachineState}
 use Rattle.run_laws.specs.Schedule.{told_so, machine_at, With}
 use Rattle.run_laws.specs.Facts.{is_paused, Facts, facts}

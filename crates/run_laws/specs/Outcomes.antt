@@ -1,7 +1,7 @@
 -- The outcomes of a move line: the command that does not send it, its refusal, the end of its process while it is kept, or the stay or landing that ends its move.
 use Rattle.std.specs.Prelude.{ℕ, ◌+◌, Bool, true, false, cond, Option, Some, None, List, [], ◌∷◌}
-use Rattle.run_tokens.specs.Ops.{is_child}
-use Rattle.run_tokens.specs.Deeds.{KeptTold, Deed, Unsent, Got, Stay, Land, Refused, Noted, pid_of}
+use Rattle.protocol.specs.Ops.{is_child}
+use Rattle.protocol.specs.Deeds.{KeptTold, Deed, Unsent, Got, Stay, Land, Refused, Noted, pid_of}
 use Rattle.run_laws.specs.Facts.{Facts, facts}
 
 abbrev pub ended_line : Option KeptTold → Option ℕ → Option ℕ

@@ -1,9 +1,9 @@
 -- The contexts that a node owns: those of the processes that it holds, and whose they are.
 use Rattle.std.specs.Prelude.{◌≡◌, ◌≢◌, ℕ, ◌==◌, Bool, false, cond, Some, List, [], ◌∷◌}
-use Rattle.run_tokens.specs.Ops.{Ops}
-use Rattle.run_tokens.specs.Deeds.{Deed, Sent, Heed, Noted}
-use Rattle.run_tokens.specs.Notes.{Context}
-use Rattle.run_tokens.specs.Cluster.{World}
+use Rattle.protocol.specs.Ops.{Ops}
+use Rattle.protocol.specs.Deeds.{Deed, Sent, Heed, Noted}
+use Rattle.protocol.specs.Notes.{Context}
+use Rattle.protocol.specs.Cluster.{World}
 use Rattle.run_laws.specs.Machine.{MachineState}
 use Rattle.run_laws.specs.Schedule.{machine_at, With}
 use Rattle.run_laws.specs.Facts.{Node, facts}

@@ -1,8 +1,8 @@
 -- Pages in use at a node: of the processes that it holds, and of those that it has allowed to come and that have not landed.
 use Rattle.std.specs.Prelude.{ℕ, ◌+◌, ◌-◌, ◌==◌, ◌&&◌, Bool, false, cond, Option, Some, None, List, [], ◌∷◌}
-use Rattle.run_tokens.specs.Ops.{Ops}
-use Rattle.run_tokens.specs.Deeds.{Deed, Allows, Land, Noted}
-use Rattle.run_tokens.specs.Ops.{sum_below}
+use Rattle.protocol.specs.Ops.{Ops}
+use Rattle.protocol.specs.Deeds.{Deed, Allows, Land, Noted}
+use Rattle.protocol.specs.Ops.{sum_below}
 use Rattle.run_laws.specs.Machine.{MachineState}
 use Rattle.run_laws.specs.Facts.{Place, Node, facts}
 

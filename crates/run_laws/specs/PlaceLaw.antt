@@ -1,6 +1,6 @@
 -- Place: an event of a process stands at the node that holds it, a landing at the target of its move, a miss at another node.
 use Rattle.std.specs.Prelude.{◌≡◌, ◌≢◌, ℕ, List, [], ◌∷◌}
-use Rattle.run_tokens.specs.Deeds.{Deed, Run, Steps, Sent, Heed, Got, Begin, Keep, Missed, Depart, Stay, Land, Noted, pid_of}
+use Rattle.protocol.specs.Deeds.{Deed, Run, Steps, Sent, Heed, Got, Begin, Keep, Missed, Depart, Stay, Land, Noted, pid_of}
 use Rattle.run_laws.specs.Facts.{Node, Link, Facts, facts}
 
 -- an event at node n, its process being as f tells

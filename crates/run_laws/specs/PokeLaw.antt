@@ -1,8 +1,8 @@
 -- Pokes: an event names exactly the other processes at which it raised a signal that they do not ignore, that have a deliverable one afterwards, and whose call is not held.
 use Rattle.std.specs.Prelude.{◌≡◌, ℕ, ◌==◌, ◌&&◌, nat_lt, Bool, not, cond, Option, Some, None, List, [], ◌∷◌}
-use Rattle.run_tokens.specs.Ops.{Ops, is_child}
-use Rattle.run_tokens.specs.Deeds.{Deed, Kill, Served, Told, Noted}
-use Rattle.run_tokens.specs.Notes.{is_some}
+use Rattle.protocol.specs.Ops.{Ops, is_child}
+use Rattle.protocol.specs.Deeds.{Deed, Kill, Served, Told, Noted}
+use Rattle.protocol.specs.Notes.{is_some}
 use Rattle.run_laws.specs.Machine.{MachineState, raised_by}
 use Rattle.run_laws.specs.Schedule.{steps_of, machine_at, With}
 use Rattle.run_laws.specs.Facts.{facts, is_held}

@@ -1,7 +1,7 @@
 -- The schedule of a run: the steps of the one-node machine that its own events tell, in their order. No other is looked for.
 use Rattle.std.specs.Prelude.{ℕ, ℤ, Option, Some, None, List, [], ◌∷◌, ◌++◌}
-use Rattle.run_tokens.specs.Ops.{Ops}
-use Rattle.run_tokens.specs.Deeds.{Text, Finish, Manner, Did, Broke, Fell, Paused, Deed, Run, Kill, Other, Steps, Served, Noted}
+use Rattle.protocol.specs.Ops.{Ops}
+use Rattle.protocol.specs.Deeds.{Text, Finish, Manner, Did, Broke, Fell, Paused, Deed, Run, Kill, Other, Steps, Served, Noted}
 use Rattle.run_laws.specs.Machine.{ReplyGiven, Step, Launch, Raise, Feed, Eof, Advance, Do, Break, Take, Fall, MachineState, empty, play}
 
 -- what a served call does, and the signal that is taken after it

@@ -2,9 +2,9 @@
 use Rattle.std.specs.Prelude.{◌≡◌, ◌≢◌, ℕ, ◌+◌, ◌<◌, ◌≤◌, ◌==◌, ◌⊎◌, slice_get, true, cond, Option, Some, None, List, [], ◌∷◌}
 use Rattle.node_event.specs.declared.script.Order.{Order}
 use Rattle.node_event.specs.declared.script.Order.TheVariants as order
-use Rattle.run_tokens.specs.Ops.{Ops}
-use Rattle.run_tokens.specs.Deeds.{Text, Finish, Nothing, Deed, Run, Kill, Bid, Unsent, Other, Held, Served, Told, Again, Closed, Strange, Noted}
-use Rattle.run_tokens.specs.Home.{live_of, HasEnded}
+use Rattle.protocol.specs.Ops.{Ops}
+use Rattle.protocol.specs.Deeds.{Text, Finish, Nothing, Deed, Run, Kill, Bid, Unsent, Other, Held, Served, Told, Again, Closed, Strange, Noted}
+use Rattle.protocol.specs.Home.{live_of, HasEnded}
 use Rattle.run_laws.specs.Machine.{MachineState}
 use Rattle.run_laws.specs.Schedule.{machine_at, With}
 use Rattle.run_laws.specs.Facts.{is_paused, facts, is_held}

@@ -1,8 +1,8 @@
 -- Signals: a served call takes one exactly where one is deliverable after the call itself.
 use Rattle.std.specs.Prelude.{◌≡◌, ℕ, Bool, Option, List, [], ◌∷◌}
-use Rattle.run_tokens.specs.Ops.{Ops}
-use Rattle.run_tokens.specs.Deeds.{Manner, Deed, Served, Noted}
-use Rattle.run_tokens.specs.Notes.{is_some}
+use Rattle.protocol.specs.Ops.{Ops}
+use Rattle.protocol.specs.Deeds.{Manner, Deed, Served, Noted}
+use Rattle.protocol.specs.Notes.{is_some}
 use Rattle.run_laws.specs.Machine.{MachineState, machine_steps}
 use Rattle.run_laws.specs.Schedule.{call_step, machine_at, With}
 

@@ -1,7 +1,7 @@
 -- No signal comes silently: where a call, the taking of a signal or a `kill` line makes a signal deliverable at another process, whose call is not held, that process is poked.
 use Rattle.std.specs.Prelude.{◌≡◌, ℕ, ◌⊎◌, Bool, false, Option, Some, None, List, [], ◌∷◌}
-use Rattle.run_tokens.specs.Ops.{Ops, is_child}
-use Rattle.run_tokens.specs.Deeds.{Deed, Kill, Served, Noted}
+use Rattle.protocol.specs.Ops.{Ops, is_child}
+use Rattle.protocol.specs.Deeds.{Deed, Kill, Served, Noted}
 use Rattle.run_laws.specs.Machine.{MachineState}
 use Rattle.run_laws.specs.Schedule.{machine_at, With}
 use Rattle.run_laws.specs.Facts.{facts, is_held}

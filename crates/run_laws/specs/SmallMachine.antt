@@ -4,8 +4,8 @@ use Rattle.std.specs.Prelude.{◌≡◌, ℕ, zero, suc, ◌+◌, ◌==◌, ℤ,
 use Rattle.call_table.specs.declared.process.End.{End}
 use Rattle.call_table.specs.declared.process.End.TheVariants as end
 use Rattle.node_event.specs.declared.script.ScriptLine.{ScriptLine}
-use Rattle.run_tokens.specs.Ops.{Ops, Acted, sum_below, one_if}
-use Rattle.run_tokens.specs.Gossip.{Sight, Choice}
+use Rattle.protocol.specs.Ops.{Ops, Acted, sum_below, one_if}
+use Rattle.protocol.specs.Gossip.{Sight, Choice}
 
 pub data Request : Type 0 where
   ExitCall : (code : ℕ) → Request

@@ -1,6 +1,6 @@
 -- A move under way: one that is kept, or one that began and whose end home was not told.
 use Rattle.std.specs.Prelude.{◌≡◌, ℕ, ◌+◌, ◌<◌, ◌==◌, ◌⊎◌, cond, Option, Some, None, List, [], ◌∷◌}
-use Rattle.run_tokens.specs.Deeds.{KeptTold, Deed, Got, Begin, Depart, Stay, Land, Told, Noted, pid_of}
+use Rattle.protocol.specs.Deeds.{KeptTold, Deed, Got, Begin, Depart, Stay, Land, Told, Noted, pid_of}
 use Rattle.run_laws.specs.Facts.{facts}
 
 -- how often a process began to move, stayed, left, landed, and was told of

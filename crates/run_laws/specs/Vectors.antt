@@ -1,8 +1,8 @@
 -- What the events tell of gossip: the vector of each node, how many halves it sent, and the halves that were sent and are not heard yet.
 use Rattle.std.specs.Prelude.{ℕ, ◌==◌, ◌&&◌, true, false, cond, Option, List, [], ◌∷◌, ◌++◌}
-use Rattle.run_tokens.specs.Ops.{Ops}
-use Rattle.run_tokens.specs.Gossip.{Entry, Gossip, no_gossip, one_step, told_places, gossip_after, Talk, Silent, Stepping, Talking, talk_of}
-use Rattle.run_tokens.specs.Deeds.{Noted}
+use Rattle.protocol.specs.Ops.{Ops}
+use Rattle.protocol.specs.Gossip.{Entry, Gossip, no_gossip, one_step, told_places, gossip_after, Talk, Silent, Stepping, Talking, talk_of}
+use Rattle.protocol.specs.Deeds.{Noted}
 use Rattle.run_laws.specs.Schedule.{the_machine}
 use Rattle.run_laws.specs.Loads.{own_entry}
 

@@ -1,9 +1,9 @@
 -- What holds of a whole run. The events stand the newest first.
 use Rattle.std.specs.Prelude.{◌≡◌, ℕ, ◌≤◌, Some, List}
-use Rattle.run_tokens.specs.Ops.{Ops}
-use Rattle.run_tokens.specs.Deeds.{Noted}
-use Rattle.run_tokens.specs.Notes.{Body, Running, context}
-use Rattle.run_tokens.specs.Cluster.{World}
+use Rattle.protocol.specs.Ops.{Ops}
+use Rattle.protocol.specs.Deeds.{Noted}
+use Rattle.protocol.specs.Notes.{Body, Running, context}
+use Rattle.protocol.specs.Cluster.{World}
 use Rattle.run_laws.specs.Machine.{MachineState, play}
 use Rattle.run_laws.specs.Schedule.{schedule, told}
 use Rattle.run_laws.specs.Lawful.{Lawful}

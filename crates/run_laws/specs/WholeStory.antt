@@ -5,7 +5,7 @@ use Rattle.call_table.specs.declared.process.End.TheVariants as end
 use Rattle.node_event.specs.declared.event.Event.{Event}
 use Rattle.node_event.specs.declared.event.What.TheVariants as what
 use Rattle.node_event.specs.declared.event.Way.TheVariants as way
-use Rattle.run_tokens.specs.Ops.{Ops}
+use Rattle.protocol.specs.Ops.{Ops}
 use Rattle.run_laws.specs.Schedule.{machine_at, With}
 use Rattle.run_laws.specs.Ends.{IsDone}
 use Rattle.run_laws.specs.SmallMachine.{ExitCall, ForkCall, Calls, small}

@@ -4,11 +4,11 @@
 
 ghost use Rattle.std.specs.Prelude.{◌≡◌, ◌≤◌, ◌<◌, ◌∷◌, ℕ, List, length};
 ghost use Rattle.node_event.specs.declared.event.Event.{Event};
-ghost use Rattle.run_tokens.specs.Deeds.{all_noted};
-ghost use Rattle.run_tokens.specs.Notes.{Post, Turn};
-ghost use Rattle.run_tokens.specs.Cluster.{World, Reached, events};
-ghost use Rattle.run_tokens.specs.Odd.{IsOdd, Timed, hops_end};
-ghost use Rattle.run_tokens.specs.Rests.{Awaits, AllRest};
+ghost use Rattle.protocol.specs.Deeds.{all_noted};
+ghost use Rattle.protocol.specs.Notes.{Post, Turn};
+ghost use Rattle.protocol.specs.Cluster.{World, Reached, events};
+ghost use Rattle.protocol.specs.Odd.{IsOdd, Timed, hops_end};
+ghost use Rattle.protocol.specs.Rests.{Awaits, AllRest};
 ghost use Rattle.run_laws.specs.Lawful.{Lawful};
 ghost use Rattle.run_laws.specs.Grounds.{Grounded};
 ghost use Rattle.run_laws.specs.Outcomes.{outcomes};
@@ -19,6 +19,7 @@ ghost use Rattle.run_laws.specs.Ending.{Ending};
 ghost use Rattle.run_laws.specs.EndStories.{hello_ends, reader_ends, keeper_ends, reached_goes_on, one_event_full, context_before, reader, reader_script, reader_events, keeper, keeper_script, keeper_events};
 ghost use Rattle.run_laws.specs.Honest.{Honest};
 ghost use Rattle.run_laws.specs.GossipStories.{pusher, push_events, heavy, denied_events, unchosen_events, unsent_events, invented, three, wrong_events, walker, walk_events, faulter, fault_events, valued_events, unpoked_events, loose_not_over};
+ghost use Rattle.run_laws.specs.OneNode.{AllHome};
 ghost use Rattle.run_laws.specs.WholeStory.{traveller, travel_events, travel_done};
 ghost use Rattle.run_laws.specs.Carried.{Did, Sorted, own_events, shown, CarriedRun, NoneStrange};
 ghost use Rattle.run_laws.specs.Histories.{read, left_out, hello_script, hello, hello_events, writer, twice_events, fork_script, forker, fork_events, move_script, mover, move_events, first_events, copy_events, refused_events, again_events, break_script, breaker, break_events, left_events, poke_script, poker, poke_events, unheeded_events};
@@ -34,6 +35,11 @@ pub fn laws_of_runs()
 /// of turns is assumed but each node's own. `turns` are what each node did, the newest first, `w` how that leaves the nodes and links, and `es` the list.
 pub fn laws_of_journals()
     ensures { (turns : ℕ → List (Turn mover)) (w : World mover) (es : List Event) → Did mover turns w → Sorted (all_noted mover.script es) → ((n : ℕ) → own_events n (all_noted mover.script es) ≡ shown mover (turns n)) → Holds mover (all_noted mover.script es) w × CarriedRun mover (all_noted mover.script es) w × ((n : ℕ) → NoneStrange mover (turns n)) }
+{}
+
+/// A run of one node stays at home: every event is at node 0, no process begins to move or has a move kept, and the node tells nobody of itself.
+pub fn runs_of_one_node()
+    ensures { (h : List (Turn hello)) (w : World hello) → Reached hello h w → AllHome (events hello h) }
 {}
 
 /// Where each stamp is exactly one more than its node's clock and its letter's stamp, no letter that comes is odd: in fewer than 2^32 - 1 turns no

@@ -1,12 +1,12 @@
 -- Whether a break can be had.
-use Rattle.std.proofs.Common.{◌≡◌, ◌≢◌, ◌⊎◌, inl, inr, ℕ, zero, suc, ◌+◌, ◌-◌, ◌/◌, ◌<◌, ◌≤◌, ◌^◌, refl, ap, ◌∙◌, sym, arith, Option, Some, None, Bool, true, false, nat_le, nat_lt, cond, ◌&&◌, not}
+use Rattle.std.proofs.Common.{◌≡◌, ◌≢◌, ◌⊎◌, inl, inr, ℕ, ◌+◌, ◌-◌, ◌/◌, ◌<◌, ◌≤◌, refl, ap, ◌∙◌, sym, arith, Bool, true, false, nat_le, ◌&&◌, not}
 use Rattle.std.proofs.lemmas.Bool.Decides.{nat_tests}
-use Rattle.std.specs.Prelude.{slice_index, ◌==◌}
+use Rattle.std.specs.Prelude.{◌==◌}
 use Rattle.std.specs.FinMap as map
 use Rattle.call_table.specs.declared.limit.TheConstants.{PAGES}
 use Rattle.page_set.specs.Pages.{PageMap}
 use Rattle.user_spec.specs.User.{UserState}
-use Rattle.user_spec.specs.Request.{page_above, without_pages, pages_with_break, is_break, break_maps, lacks_page, with_break}
+use Rattle.user_spec.specs.Request.{page_above, without_pages, pages_with_break, is_break, break_maps, lacks_page}
 use Rattle.user_ctx.specs.Heap.{mapped_in, mapped_for}
 use Rattle.user_ctx.proofs.Heaps.{break_len, len_at_least, lacks_tells, broken_same, lacking_all}
 

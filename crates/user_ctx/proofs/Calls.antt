@@ -1,5 +1,5 @@
 -- Calls that end where the process runs.
-use Rattle.std.proofs.Common.{◌≡◌, ◌≢◌, ◌⊎◌, inl, inr, ℕ, zero, suc, ◌+◌, ◌-◌, ◌<◌, ◌≤◌, ◌^◌, refl, ap, ◌∙◌, sym, arith, Option, Some, None, Bool, true, false, nat_le, nat_lt, cond, ◌&&◌, ◌||◌, not, ◌/◌}
+use Rattle.std.proofs.Common.{◌≡◌, ◌≢◌, ℕ, ◌-◌, ◌<◌, refl, ap, ◌∙◌, sym, arith, Bool, true, false, nat_le, cond, ◌&&◌, ◌||◌, not, ◌/◌}
 use Rattle.call_table.specs.Calls.{is_call, is_site_local}
 use Rattle.std.proofs.lemmas.Bool.Decides.{nat_tests}
 use Rattle.std.specs.Prelude.{slice_index, ◌==◌}
@@ -16,7 +16,6 @@ use Rattle.std.specs.Int.{w32, cast_unsigned}
 use Rattle.call_table.specs.declared.limit.TheConstants.{STEPS}
 use Rattle.user_ctx.specs.Stopping.{IsAtEcall}
 use Rattle.user_ctx.specs.Heap.{mapped_for}
-use Rattle.user_ctx.specs.Calling.{IsLocal}
 use Rattle.user_ctx.proofs.Walks.{advance_is}
 use Rattle.user_ctx.proofs.Breaks.{break_after, same_pages}
 

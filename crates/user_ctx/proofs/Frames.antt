@@ -1,11 +1,11 @@
 -- Bytes of a process, and the frame of a signal.
-use Rattle.std.proofs.Common.{◌≡◌, ◌≢◌, ℕ, zero, suc, ◌+◌, ◌-◌, ◌*◌, ◌%◌, ◌<◌, ◌≤◌, ◌^◌, List, [], ◌∷◌, ◌++◌, refl, ap, ◌∙◌, sym, arith, Option, Some, None, Result, Ok, Err, Bool, true, false, length, take, drop}
+use Rattle.std.proofs.Common.{◌≡◌, ℕ, zero, suc, ◌+◌, ◌-◌, ◌%◌, ◌<◌, ◌≤◌, ◌^◌, List, [], ◌∷◌, ◌++◌, refl, ap, ◌∙◌, sym, arith, Option, Some, None, Result, Ok, Err, true, false, length, take, drop}
 use Rattle.std.specs.Prelude.{is_ok, slice_set, slice_index}
 use Rattle.std.specs.Result.{result_unwrap_or}
 use Rattle.std.proofs.lemmas.List.{take_more_set, take_all}
 use Rattle.std.proofs.Math.ListN.{get_or-append, length-append}
 use Rattle.std.proofs.Math.Seq.{get_or-append_seam, drop-cons}
-use Rattle.page_set.specs.Pages.{PageMap, flat_at, refusal, wrapped, with_bytes, bytes_4}
+use Rattle.page_set.specs.Pages.{PageMap, refusal, wrapped, with_bytes, bytes_4}
 use Rattle.user_spec.specs.Words.{sum_of}
 use Rattle.user_spec.specs.Request.{frame_word, frame_registers, with_words}
 

@@ -1,14 +1,11 @@
 -- What a break does to the pages, and to their number.
-use Rattle.std.proofs.Common.{◌≡◌, ◌≢◌, ◌⊎◌, inl, inr, ℕ, zero, suc, ◌+◌, ◌-◌, ◌*◌, ◌/◌, ◌^◌, ◌<◌, ◌≤◌, refl, ap, ◌∙◌, sym, arith, Bool, cond, true, false, Option, Some, None, is_some, is_none, ◌||◌, nat_le, not, ◌&&◌, ◌%◌}
-use Rattle.std.specs.Prelude.{slice_index}
-use Rattle.std.specs.Option.{option_map}
+use Rattle.std.proofs.Common.{◌≡◌, ◌⊎◌, inl, inr, ℕ, zero, suc, ◌+◌, ◌-◌, ◌/◌, ◌<◌, ◌≤◌, refl, ap, ◌∙◌, sym, arith, Bool, cond, true, false, Option, Some, None, is_some, is_none, ◌||◌}
 use Rattle.std.specs.Ordering.{nat_cmp}
 use Rattle.std.specs.Cmp.{nat_cmp_total}
 use Rattle.std.specs.FinMap as map
-use Rattle.std.proofs.lemmas.Bool.Decides.{nat_tests, eqb_tells}
-use Rattle.page_set.specs.Pages.{Page, PageMap, plain_byte, zero_page, changed_page, page_with_rights}
-use Rattle.user_spec.specs.User.{UserState}
-use Rattle.user_spec.specs.Request.{page_above, without_pages, with_heap_page, with_heap_pages, lacks_page, pages_with_break, is_break}
+use Rattle.std.proofs.lemmas.Bool.Decides.{eqb_tells}
+use Rattle.page_set.specs.Pages.{Page, PageMap, zero_page, changed_page, page_with_rights}
+use Rattle.user_spec.specs.Request.{page_above, without_pages, with_heap_page, with_heap_pages, lacks_page, pages_with_break}
 use Rattle.user_ctx.specs.Heap.{one_if_mapped, mapped_in, with_zeros, with_lacking, broken}
 use Rattle.page_set.proofs.Maps.{get_removed, get_removed_other, get_inserted_other}
 use Rattle.user_ctx.proofs.Maps.{lt_or_le, same, heap_page, page_or_zeros, heap_page_is, heap_other, without_in, without_out, without_more, heap_in, heap_out, heap_more, lacking_in, lacking_out, there, all_there}

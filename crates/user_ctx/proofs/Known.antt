@@ -1,14 +1,14 @@
 -- What is known of the heap, and a break.
-use Rattle.std.proofs.Common.{◌≡◌, ◌≢◌, ◌⊎◌, inl, inr, ℕ, zero, suc, ◌+◌, ◌-◌, ◌/◌, ◌%◌, ◌<◌, ◌≤◌, refl, ap, ◌∙◌, sym, arith, Option, Some, None, Bool, true, false, is_some, min, max}
+use Rattle.std.proofs.Common.{◌≡◌, inl, inr, ℕ, ◌+◌, ◌-◌, ◌/◌, ◌%◌, ◌≤◌, refl, ap, ◌∙◌, sym, arith, Option, Some, None, true, false, is_some, min, max}
 use Rattle.std.specs.Prelude.{bit_and, bit_or, ◌==◌}
 use Rattle.std.specs.Int.Bits.{or_add_and}
 use Rattle.std.proofs.lemmas.Nat.{and_or_self}
 use Rattle.std.proofs.lemmas.Bool.Decides.{nat_tests}
 use Rattle.std.specs.Option.{option_map}
 use Rattle.std.specs.FinMap as map
-use Rattle.page_set.specs.Pages.{Page, PageMap, zero_page}
+use Rattle.page_set.specs.Pages.{Page, PageMap}
 use Rattle.user_spec.specs.User.{UserState}
-use Rattle.user_spec.specs.Request.{page_above, without_pages, with_heap_pages, lacks_page, pages_with_break}
+use Rattle.user_spec.specs.Request.{page_above, without_pages, with_heap_pages, lacks_page}
 use Rattle.user_ctx.specs.Heap.{mapped_in, with_lacking, broken, rights_at, is_heap_page, IsHeap}
 use Rattle.user_ctx.proofs.Maps.{lt_or_le, same, heap_page, page_or_zeros, heap_in, heap_out, without_in, without_out, lacking_in, lacking_out, there, all_there}
 use Rattle.user_ctx.proofs.Heaps.{mapped_split, mapped_full, mapped_free, broken_below, broken_in, broken_above, broken_far}

@@ -12,4 +12,6 @@ pub mod Rights
 pub mod Known
 pub mod Moves
 pub mod Stored
-pub mod Decodings
+pub mod Ready
+pub mod Made
+pub mod Going

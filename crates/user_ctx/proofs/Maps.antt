@@ -1,14 +1,12 @@
 -- Pages by their numbers.
-use Rattle.std.proofs.Common.{◌≡◌, ◌≢◌, ◌⊎◌, inl, inr, ℕ, zero, suc, ◌+◌, ◌*◌, ◌/◌, ◌^◌, ◌<◌, ◌≤◌, refl, ap, ◌∙◌, sym, arith, Bool, cond, true, false, Option, Some, None, is_some, is_none, ◌||◌}
-use Rattle.std.specs.Option.{option_map}
-use Rattle.std.specs.Ordering.{nat_cmp}
+use Rattle.std.proofs.Common.{◌≡◌, ◌≢◌, ◌⊎◌, inl, inr, ℕ, zero, suc, ◌+◌, ◌<◌, ◌≤◌, refl, ap, ◌∙◌, sym, arith, Bool, cond, true, false, Option, Some, None, is_some, is_none, ◌||◌}
 use Rattle.std.specs.Cmp.{nat_cmp_total}
 use Rattle.std.specs.FinMap as map
-use Rattle.std.proofs.lemmas.Bool.Decides.{nat_tests, eqb_tells}
+use Rattle.std.proofs.lemmas.Bool.Decides.{eqb_tells}
 use Rattle.page_set.proofs.Maps.{get_inserted, get_inserted_other, get_removed, get_removed_other}
-use Rattle.page_set.specs.Pages.{Page, PageMap, zero_page, page_with_rights, changed_page, plain_byte}
+use Rattle.page_set.specs.Pages.{Page, PageMap, zero_page, page_with_rights, changed_page}
 use Rattle.user_spec.specs.Request.{without_pages, with_heap_page, with_heap_pages, lacks_page}
-use Rattle.user_ctx.specs.Heap.{one_if_mapped, mapped_in, with_zeros, with_lacking}
+use Rattle.user_ctx.specs.Heap.{with_zeros, with_lacking}
 
 pub same : (a b : PageMap) → ((q : ℕ) → map.get a q ≡ map.get b q) → a ≡ b
 same a b h = map.same_map nat_cmp_total map.nat_cmp-IsAntisymmetric a b h

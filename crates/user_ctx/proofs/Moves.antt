@@ -1,10 +1,10 @@
 -- A process whose break is moved.
-use Rattle.std.proofs.Common.{◌≡◌, ◌≢◌, ℕ, ◌+◌, ◌-◌, ◌/◌, ◌%◌, ◌<◌, ◌≤◌, refl, ap, ◌∙◌, sym, arith, Bool, true, false, min, max}
+use Rattle.std.proofs.Common.{◌≡◌, ℕ, ◌-◌, ◌/◌, ◌≤◌, ap, ◌∙◌, sym, arith, true, false, min, max}
 use Rattle.page_set.specs.Pages.{PageMap}
 use Rattle.user_spec.specs.User.{UserState}
-use Rattle.user_spec.specs.Request.{page_above, without_pages, with_heap_pages, lacks_page, pages_with_break, is_break, break_maps, with_break}
+use Rattle.user_spec.specs.Request.{page_above, without_pages, with_heap_pages, lacks_page, is_break, break_maps, with_break}
 use Rattle.user_ctx.specs.Heap.{with_lacking, broken, IsHeap, mapped_for}
-use Rattle.user_ctx.proofs.Breaks.{limits, lacks_not, page_above_least, page_above_most}
+use Rattle.user_ctx.proofs.Breaks.{limits, lacks_not}
 use Rattle.user_ctx.proofs.Calls.{broken_is}
 use Rattle.user_ctx.proofs.Known.{part_there, part_broken, heap_broken, part_lacking, heap_lacking}
 

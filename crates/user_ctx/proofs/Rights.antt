@@ -1,12 +1,12 @@
 -- Steps leave each page its rights.
-use Rattle.std.proofs.Common.{◌≡◌, ◌≢◌, ◌⊎◌, inl, inr, ℕ, zero, suc, ◌+◌, ◌-◌, ◌/◌, ◌%◌, ◌<◌, ◌≤◌, ◌^◌, List, [], ◌∷◌, refl, ap, ◌∙◌, sym, subst, arith, Option, Some, None, Result, Ok, Err, Bool, true, false, drop, length}
+use Rattle.std.proofs.Common.{◌≡◌, inl, inr, ℕ, zero, suc, ◌+◌, ◌/◌, ◌%◌, ◌<◌, ◌≤◌, ◌^◌, List, [], ◌∷◌, refl, ap, ◌∙◌, sym, arith, Option, Some, None, Result, Ok, Err, length}
 use Rattle.std.proofs.lemmas.Option.{none-some, same_Some}
 use Rattle.std.proofs.lemmas.Bool.Decides.{eqb_tells}
 use Rattle.std.specs.FinMap as map
 use Rattle.page_set.specs.Pages.{Page, PageMap, page_with_byte, changed_page, with_byte, with_bytes, where_granted, bytes_at, bytes_1, bytes_2, bytes_4, stored}
 use Rattle.user_spec.specs.Words.{sum_of}
 use Rattle.user_spec.specs.Request.{with_words}
-use Rattle.user_spec.specs.Instruction.{Core, Ran, one_instruction, next_effect, applied, with_loaded, with_stored, load_as, store_as, on_outcome, ran}
+use Rattle.user_spec.specs.Instruction.{Core, one_instruction, next_effect, applied, with_loaded, with_stored, load_as, store_as, on_outcome, ran}
 use Rattle.user_spec.specs.declared.outcome.Outcome.{Outcome}
 use Rattle.user_spec.specs.declared.outcome.Outcome.TheVariants.{Done, Call, Fault}
 use Rattle.user_spec.specs.declared.effect.Effect.{Effect}

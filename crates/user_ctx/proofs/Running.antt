@@ -1,5 +1,5 @@
 -- Instructions after others.
-use Rattle.std.proofs.Common.{◌≡◌, ◌≢◌, ◌∷◌, ℕ, zero, suc, ◌+◌, refl, ap, ◌∙◌, sym, arith, Some, Result, Ok, Err}
+use Rattle.std.proofs.Common.{◌≡◌, ◌≢◌, ◌∷◌, ℕ, zero, suc, ◌+◌, ◌-◌, ◌≤◌, refl, ap, ◌∙◌, sym, arith, Some, Result, Ok, Err}
 use Rattle.std.proofs.lemmas.Option.{none-some, same_Some}
 use Rattle.user_spec.specs.Instruction.{Core, Ran, done, applied, with_loaded, with_stored, load_as, store_as, next_effect, one_instruction, on_outcome, on_ran, ran}
 use Rattle.user_spec.specs.declared.effect.Effect.{Effect}
@@ -23,6 +23,25 @@ ran_on (suc k) n u v w h e =
 pub ran_more : (k : ℕ) (u v w : Core) → ran k u ≡ Some v → one_instruction v ≡ done w → ran (k + 1) u ≡ Some w
 ran_more k u v w h e = ran_on k 1 u v w h (ap (λ r. on_ran r (ran 0)) e)
 
+pub ran_to : (k n m : ℕ) (u v w : Core) → ran k u ≡ Some v → ran n v ≡ Some w → k + n ≡ m → ran m u ≡ Some w
+ran_to k n m u v w h e is = ap (λ i. ran i u) (sym is) ∙ ran_on k n u v w h e
+
+-- one more of those from a place on, after others
+pub ran_further : (gone from at next : ℕ) (u v w : Core) → from ≤ at → next ≡ at + 1 → ran (gone + (at - from)) u ≡ Some v → one_instruction v ≡ done w → ran (gone + (next - from)) u ≡ Some w
+ran_further gone from at next u v w le is h e =
+    let more : gone + (next - from) ≡ gone + (at - from) + 1 = omega arith in
+    ap (λ k. ran k u) more ∙ ran_more (gone + (at - from)) u v w h e
+
+-- one more of those from a place on, which ends them, of n of which so many are left
+pub ran_ended : (n left from at m : ℕ) (u v w : Core) → from ≤ at → left ≤ n → at - from + 1 ≤ left → m ≡ n - (left - (at - from + 1)) → ran (n - left + (at - from)) u ≡ Some v → one_instruction v ≡ done w → ran m u ≡ Some w
+ran_ended n left from at m u v w le ln room is h e =
+    let all : m ≡ n - left + (at - from) + 1 = omega arith in
+    ap (λ k. ran k u) all ∙ ran_more (n - left + (at - from)) u v w h e
+
+-- some, and others after which nothing changed
+pub ran_same : (k : ℕ) (u v w : Core) → ran k u ≡ Some v → w ≡ v → ran k u ≡ Some w
+ran_same k u v w h is = h ∙ ap (λ (x : Core). Some x) (sym is)
+
 -- ---- only an instruction that was done changes anything
 
 loaded_stays : (rd : ℕ) (r : Result ℕ ℕ) (c : Core) → (with_loaded rd r c).outcome ≢ Done → (with_loaded rd r c).core ≡ c
@@ -44,3 +63,6 @@ pub stays : (o : Outcome) (c d : Core) → one_instruction c ≡ record { outcom
 stays o c d e ne =
     ap (λ (r : Ran). r.core) (sym e)
     ∙ applied_stays (next_effect c.pc (0 ∷ c.registers) c.pages) c (λ f. ne (ap (λ (r : Ran). r.outcome) (sym e) ∙ f))
+
+pub done_is : (o : Outcome) (c d : Core) → one_instruction c ≡ record { outcome = o; core = d } → o ≡ Done → one_instruction c ≡ done d
+done_is o c d e is = e ∙ ap (λ x. let r : Ran = record { outcome = x; core = d } in r) is

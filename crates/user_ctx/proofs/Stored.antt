@@ -7,7 +7,7 @@ use Rattle.page_set.specs.Pages.{Page, PageMap, byte_of, byte_at, bytes_at, with
 use Rattle.user_spec.specs.declared.effect.Width.{Width}
 use Rattle.user_spec.specs.declared.effect.Width.TheVariants.{One, Two, Four}
 use Rattle.user_spec.specs.Instruction.{store_as}
-use Rattle.user_ctx.specs.Decoded.{word_of}
+use Rattle.user_ctx.specs.Windows.{word_of, SameWords, SameBut, IsClear}
 use Rattle.page_set.proofs.Maps.{get_inserted, get_inserted_other}
 
 -- another byte of the page
@@ -77,3 +77,25 @@ pub store_other : (width : Width) (old new : PageMap) (addr value at : ℕ) → 
 store_other One old new addr value at = stored_other (bytes_1 value) old new addr at (omega arith)
 store_other Two old new addr value at = stored_other (bytes_2 value) old new addr at (omega arith)
 store_other Four old new addr value at = stored_other (bytes_4 value) old new addr at (omega arith)
+
+pub stored_but : (width : Width) (old new : PageMap) (addr value : ℕ) → store_as width old addr value ≡ Ok new → addr < 2 ^ 32 → SameBut addr 0 (2 ^ 32) old new
+stored_but width old new addr value e lt = record { each = λ at al low high first last. store_other width old new addr value at e lt al high first last }
+
+pub within_but : (width : Width) (old new : PageMap) (addr value low end : ℕ) → store_as width old addr value ≡ Ok new → addr < 2 ^ 32 → end ≤ 2 ^ 32 → SameBut addr low end old new
+within_but width old new addr value low end e lt most = record { each = λ at al above below first last. store_other width old new addr value at e lt al (omega arith) first last }
+
+pub clear_same : (width : Width) (old new : PageMap) (addr value low end : ℕ) → store_as width old addr value ≡ Ok new → IsClear addr low end → end ≤ 2 ^ 32 → SameWords low end old new
+clear_same width old new addr value low end e c most = record {
+  each = λ at al above below.
+      let apart = c.each at above below al in
+      store_other width old new addr value at e c.range al (omega arith) apart.0 apart.1;
+}
+
+pub same_words : (low end : ℕ) (old new : PageMap) → new ≡ old → SameWords low end old new
+same_words low end old new e = record { each = λ at al above below. ap (λ m. loaded m at 4 1) e }
+
+pub same_on : (low end : ℕ) (a b c : PageMap) → SameWords low end a b → SameWords low end b c → SameWords low end a c
+same_on low end a b c h k = record { each = λ at al above below. k.each at al above below ∙ h.each at al above below }
+
+pub but_on : (addr low end : ℕ) (a b c : PageMap) → SameWords low end a b → SameBut addr low end b c → SameBut addr low end a c
+but_on addr low end a b c h k = record { each = λ at al above below first last. k.each at al above below first last ∙ h.each at al above below }

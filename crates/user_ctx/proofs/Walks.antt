@@ -1,11 +1,11 @@
 -- Steps of a process, from its instructions.
-use Rattle.std.proofs.Common.{◌≡◌, ◌≢◌, ◌⊎◌, inl, inr, ℕ, zero, suc, ◌+◌, ◌-◌, ◌<◌, ◌≤◌, ◌^◌, refl, ap, ◌∙◌, sym, subst, arith, Option, Some, None, Bool, true, false, nat_le, nat_lt, cond, ◌&&◌, not, min}
+use Rattle.std.proofs.Common.{◌≡◌, ◌≢◌, ◌⊎◌, inl, inr, ℕ, zero, suc, ◌+◌, ◌-◌, ◌<◌, ◌≤◌, refl, ap, ◌∙◌, sym, subst, arith, Some, Bool, true, false, nat_le, nat_lt, cond, ◌&&◌, not, min}
 use Rattle.std.proofs.lemmas.Option.{none-some, same_Some}
-use Rattle.std.proofs.lemmas.Bool.Decides.{nat_tests, leb_tells}
+use Rattle.std.proofs.lemmas.Bool.Decides.{nat_tests}
 use Rattle.user_spec.specs.User.{UserState}
 use Rattle.user_spec.specs.Request.{number_of, args_of, break_maps}
 use Rattle.user_spec.specs.Instruction.{Core, Ran, done, one_instruction, on_outcome, ran}
-use Rattle.user_spec.specs.Advance.{Went, Done, AtCall, Faults, advance, core_of, with_core, went_of, at_call, grows, is_at_ecall, Stepped, stepped, stepped_as, Walk, walked, walk_on, stays, one_more}
+use Rattle.user_spec.specs.Advance.{Went, Done, AtCall, Faults, advance, core_of, with_core, went_of, grows, is_at_ecall, Stepped, stepped, stepped_as, Walk, walked, walk_on, stays, one_more}
 use Rattle.std.specs.Prelude.{slice_index, ◌==◌}
 use Rattle.user_spec.specs.declared.outcome.Stop.{Stop}
 use Rattle.user_spec.specs.declared.outcome.Stop.TheVariants as stop
@@ -14,7 +14,7 @@ use Rattle.user_spec.specs.declared.outcome.Outcome.TheVariants as outcome
 use Rattle.call_table.specs.declared.limit.TheConstants.{STEPS}
 use Rattle.call_table.specs.declared.signal.TheConstants.{SIGXCPU}
 use Rattle.call_table.specs.declared.call.TheConstants.{BRK}
-use Rattle.user_ctx.specs.Stopping.{StopsAt, after, Leads, IsAtEcall, EndsAs, limited}
+use Rattle.user_ctx.specs.Stopping.{StopsAt, after, Leads, EndsAs, limited}
 
 -- ---- one step
 

@@ -1,4 +1,7 @@
 pub mod Stopping
 pub mod Heap
 pub mod Calling
-pub mod Decoded
+pub mod Ops
+pub mod Places
+pub mod Windows
+pub mod Blocks

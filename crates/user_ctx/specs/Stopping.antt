@@ -1,5 +1,5 @@
 -- What the answers of a step and of a run tell.
-use Rattle.std.specs.Prelude.{ℕ, ◌≡◌, ◌+◌, ◌<◌, ◌^◌, List, drop, Bool, true, false}
+use Rattle.std.specs.Prelude.{ℕ, ◌≡◌, ◌+◌, ◌<◌, List, drop, Bool, true, false}
 use Rattle.call_table.specs.declared.limit.TheConstants.{STEPS}
 use Rattle.call_table.specs.declared.signal.TheConstants.{SIGXCPU}
 use Rattle.page_set.specs.Pages.{PageMap}

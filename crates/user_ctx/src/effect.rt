@@ -122,10 +122,10 @@ fn stores(addr: u32, value: u32, width: Width) -> Effect
 }
 
 #[inline(always)]
-pub fn effect(instr: Instr, pc: u32, x: &[u32; 32]) -> Effect
-    ensures { result ≡ effect_of instr pc x.now }
+pub fn effect(instr: &Instr, pc: u32, x: &[u32; 32]) -> Effect
+    ensures { result ≡ effect_of instr.now pc x.now }
 {
-    match instr {
+    match *instr {
         Instr::Lui(rd, imm) => sets(rd, imm.as_word(), pc),
         Instr::Auipc(rd, imm) => sets(rd, pc.wrapping_add(imm.as_word()), pc),
         Instr::Jal(rd, imm) => jump(rd, pc.wrapping_add(4), pc.wrapping_add(imm.as_word())),

@@ -1,11 +1,10 @@
 // One instruction, on pc, registers and pages.
-ghost use Rattle.std.specs.Prelude.{ℕ, List, ◌≡◌, ◌∷◌, drop, MatchResult, IsSome, Ok, Err, OnErr};
+ghost use Rattle.std.specs.Prelude.{◌≡◌, ◌∷◌, drop, MatchResult, Ok, Err, OnErr};
 ghost use Rattle.user_spec.specs.Words.{sign_filled};
 ghost use Rattle.user_spec.specs.Instruction.{next_effect, load_as, store_as, one_instruction};
 ghost use Rattle.user_ctx.specs.Stopping.{core};
-ghost use Rattle.user_ctx.specs.Decoded.{IsKnown, known_at};
+ghost use Rattle.user_ctx.specs.Windows.{Stored};
 
-use crate::decoded::DecodedWords;
 use crate::effect::{effect, set_register};
 use call_table::signal::{SIGILL, SIGSEGV};
 use call_table::{RIGHT_READ, RIGHT_RUN};
@@ -31,7 +30,7 @@ fn sign_half(half: u16) -> u32
 }
 
 #[inline(always)]
-fn load(pages: &Pages, addr: u32, form: Form) -> Result<u32, Refused>
+pub fn load(pages: &Pages, addr: u32, form: Form) -> Result<u32, Refused>
     ensures { MatchResult result (λ w. load_as form pages.now addr ≡ Ok w) (λ e. load_as form pages.now addr ≡ Err e.addr) }
 {
     match form {
@@ -44,7 +43,7 @@ fn load(pages: &Pages, addr: u32, form: Form) -> Result<u32, Refused>
 }
 
 #[inline(always)]
-fn store(pages: &mut Pages, addr: u32, value: u32, width: Width) -> Result<(), Refused>
+pub fn store(pages: &mut Pages, addr: u32, value: u32, width: Width) -> Result<(), Refused>
     ensures is { MatchResult result (λ _. store_as width pages.old addr value ≡ Ok pages.new) (λ e. store_as width pages.old addr value ≡ Err e.addr) }
     ensures err { OnErr result (pages.new ≡ pages.old) }
 {
@@ -68,126 +67,42 @@ pub fn next(pc: u32, x: &[u32; 32], pages: &Pages) -> Effect
         Err(_) => return Effect::Raises(SIGSEGV),
     };
     match decode(word) {
-        Some(instr) => effect(instr, pc, x),
+        Some(instr) => effect(&instr, pc, x),
         None => Effect::Raises(SIGILL),
     }
 }
 
-/// One instruction. Unless it was done nothing changes.
+/// One instruction, and where it stored. Unless it was done nothing changes.
 #[inline(always)]
-pub fn step(pc: &mut u32, x: &mut [u32; 32], pages: &mut Pages) -> Outcome
+#[tactic(auto, using(crate::proofs::Stored::stored_but))]
+pub fn step(pc: &mut u32, x: &mut [u32; 32], pages: &mut Pages) -> (Outcome, Option<u32>)
     requires { x.old ≡ 0 ∷ drop 1 x.old }
     ensures zero { x.new ≡ 0 ∷ drop 1 x.new }
-    ensures is { one_instruction (core pc.old x.old pages.old) ≡ record { outcome = result; core = core pc.new x.new pages.new } }
+    ensures is { one_instruction (core pc.old x.old pages.old) ≡ record { outcome = result.0; core = core pc.new x.new pages.new } }
+    ensures stored { Stored result.1 pages.old pages.new }
 {
     match next(*pc, x, pages) {
         Effect::Sets { rd, value, next } => {
             set_register(x, rd, value);
             *pc = next;
-            Outcome::Done
+            (Outcome::Done, None)
         }
         Effect::Loads { rd, addr, form } => match load(pages, addr, form) {
             Ok(value) => {
                 set_register(x, rd, value);
                 *pc = (*pc).wrapping_add(4);
-                Outcome::Done
+                (Outcome::Done, None)
             }
-            Err(_) => Outcome::Fault(SIGSEGV),
+            Err(_) => (Outcome::Fault(SIGSEGV), None),
         },
         Effect::Stores { addr, value, width } => match store(pages, addr, value, width) {
             Ok(()) => {
                 *pc = (*pc).wrapping_add(4);
-                Outcome::Done
+                (Outcome::Done, Some(addr))
             }
-            Err(_) => Outcome::Fault(SIGSEGV),
+            Err(_) => (Outcome::Fault(SIGSEGV), None),
         },
-        Effect::Calls => Outcome::Call,
-        Effect::Raises(signal) => Outcome::Fault(signal),
-    }
-}
-
-/// Learns the word at a place, or tells the signal of a fault there.
-#[inline(never)]
-#[cold]
-fn learn(pc: u32, pages: &Pages, words: &mut DecodedWords) -> Result<(), u8>
-    requires { IsKnown pages.now words.old.words }
-    ensures is { MatchResult result (λ _. IsSome (known_at words.new.words pc)) (λ signal. (x : List ℕ) → next_effect pc x pages.now ≡ Effect.Raises signal) }
-    ensures known { IsKnown pages.now words.new.words }
-{
-    if pc % 4 != 0 {
-        return Err(SIGSEGV);
-    }
-    let word = match pages.load_4(pc, RIGHT_RUN) {
-        Ok(word) => word,
-        Err(_) => return Err(SIGSEGV),
-    };
-    match decode(word) {
-        Some(instr) => {
-            words.learn(pc, &instr);
-            Ok(())
-        }
-        None => Err(SIGILL),
-    }
-}
-
-/// The effect of the next instruction, by its word where that is known.
-#[inline(always)]
-#[tactic(auto, using(crate::proofs::Decodings::found))]
-fn next_known(pc: u32, x: &[u32; 32], pages: &Pages, words: &mut DecodedWords) -> Effect
-    requires { IsKnown pages.now words.old.words }
-    ensures is { result ≡ next_effect pc x.now pages.now }
-    ensures known { IsKnown pages.now words.new.words }
-{
-    if pc % 4 != 0 {
-        return Effect::Raises(SIGSEGV);
-    }
-    if !words.knows(pc) {
-        match learn(pc, pages, words) {
-            Ok(()) => {}
-            Err(signal) => return Effect::Raises(signal),
-        }
-    }
-    effect(words.get(pc), pc, x)
-}
-
-/// One instruction, by its word where that is known. Unless it was done nothing changes but what is known.
-#[inline(always)]
-#[tactic(auto, using(crate::proofs::Decodings::stored))]
-pub fn step_known(
-    pc: &mut u32,
-    x: &mut [u32; 32],
-    pages: &mut Pages,
-    words: &mut DecodedWords,
-) -> Outcome
-    requires zero { x.old ≡ 0 ∷ drop 1 x.old }
-    requires known { IsKnown pages.old words.old.words }
-    ensures zero { x.new ≡ 0 ∷ drop 1 x.new }
-    ensures is { one_instruction (core pc.old x.old pages.old) ≡ record { outcome = result; core = core pc.new x.new pages.new } }
-    ensures known { IsKnown pages.new words.new.words }
-{
-    match next_known(*pc, x, pages, words) {
-        Effect::Sets { rd, value, next } => {
-            set_register(x, rd, value);
-            *pc = next;
-            Outcome::Done
-        }
-        Effect::Loads { rd, addr, form } => match load(pages, addr, form) {
-            Ok(value) => {
-                set_register(x, rd, value);
-                *pc = (*pc).wrapping_add(4);
-                Outcome::Done
-            }
-            Err(_) => Outcome::Fault(SIGSEGV),
-        },
-        Effect::Stores { addr, value, width } => match store(pages, addr, value, width) {
-            Ok(()) => {
-                words.forget_bytes(addr);
-                *pc = (*pc).wrapping_add(4);
-                Outcome::Done
-            }
-            Err(_) => Outcome::Fault(SIGSEGV),
-        },
-        Effect::Calls => Outcome::Call,
-        Effect::Raises(signal) => Outcome::Fault(signal),
+        Effect::Calls => (Outcome::Call, None),
+        Effect::Raises(signal) => (Outcome::Fault(signal), None),
     }
 }

@@ -3,15 +3,16 @@ ghost use Rattle.std.specs.Prelude.{◌≡◌, ◌≢◌, ◌≤◌, Some, ◌�
 ghost use Rattle.user_spec.specs.Instruction.{one_instruction, ran};
 ghost use Rattle.user_ctx.specs.Stopping.{core};
 
-use crate::decoded::DecodedWords;
-use crate::step::{step, step_known};
+use crate::step::step;
+use crate::windows::Windows;
 use page_set::Pages;
 use user_spec::outcome::Outcome;
 
-/// More instructions than this pay for a table of decoded words.
-const PLAIN_STEPS: u32 = 256;
+/// More instructions than this pay for making them ready.
+const PLAIN_STEPS: u32 = 128;
 
-/// Instructions until so many were done or one was not: how many were done, and how the last one came out.
+/// Instructions as they are written until so many were done or one was not: how many were done, and how the last one came
+/// out.
 #[inline(never)]
 fn run_plain(pc: &mut u32, x: &mut [u32; 32], pages: &mut Pages, n: u32) -> (u32, Outcome)
     requires { x.old ≡ 0 ∷ drop 1 x.old }
@@ -24,7 +25,8 @@ fn run_plain(pc: &mut u32, x: &mut [u32; 32], pages: &mut Pages, n: u32) -> (u32
 {
     let mut at = *pc;
     for i in 0..n {
-        match step(&mut at, x, pages) {
+        let (outcome, _) = step(&mut at, x, pages);
+        match outcome {
             Outcome::Done => {}
             outcome => {
                 *pc = at;
@@ -36,10 +38,9 @@ fn run_plain(pc: &mut u32, x: &mut [u32; 32], pages: &mut Pages, n: u32) -> (u32
     (n, Outcome::Done)
 }
 
-/// The same, with a table of decoded words.
+/// The same, by what is made ready on the way.
 #[inline(never)]
-#[tactic(auto, using(crate::proofs::Decodings::empty_known))]
-fn run_known(pc: &mut u32, x: &mut [u32; 32], pages: &mut Pages, n: u32) -> (u32, Outcome)
+fn run_ready(pc: &mut u32, x: &mut [u32; 32], pages: &mut Pages, n: u32) -> (u32, Outcome)
     requires { x.old ≡ 0 ∷ drop 1 x.old }
     ensures zero { x.new ≡ 0 ∷ drop 1 x.new }
     ensures most { result.0 ≤ n }
@@ -48,14 +49,25 @@ fn run_known(pc: &mut u32, x: &mut [u32; 32], pages: &mut Pages, n: u32) -> (u32
     ensures short { result.1 ≢ Outcome.Done → result.0 < n }
     ensures stop { result.1 ≢ Outcome.Done → one_instruction (core pc.new x.new pages.new) ≡ record { outcome = result.1; core = core pc.new x.new pages.new } }
 {
-    let mut words = DecodedWords::new();
     let mut at = *pc;
-    for i in 0..n {
-        match step_known(&mut at, x, pages, &mut words) {
-            Outcome::Done => {}
+    let mut windows = Windows::new(at, pages);
+    let mut done = 0;
+    for _i in 0..n {
+        let (more, goes_on) = windows.run(&mut at, x, pages, n - done);
+        done += more;
+        if done == n {
+            *pc = at;
+            return (n, Outcome::Done);
+        }
+        if goes_on {
+            continue;
+        }
+        windows.learn(at, pages);
+        match windows.step(&mut at, x, pages) {
+            Outcome::Done => done += 1,
             outcome => {
                 *pc = at;
-                return (i, outcome);
+                return (done, outcome);
             }
         }
     }
@@ -63,7 +75,7 @@ fn run_known(pc: &mut u32, x: &mut [u32; 32], pages: &mut Pages, n: u32) -> (u32
     (n, Outcome::Done)
 }
 
-/// The same, with such a table after the first ones.
+/// The same, plainly at first.
 pub fn run(pc: &mut u32, x: &mut [u32; 32], pages: &mut Pages, n: u32) -> (u32, Outcome)
     requires { x.old ≡ 0 ∷ drop 1 x.old }
     ensures zero { x.new ≡ 0 ∷ drop 1 x.new }
@@ -76,7 +88,7 @@ pub fn run(pc: &mut u32, x: &mut [u32; 32], pages: &mut Pages, n: u32) -> (u32, 
     let (went, outcome) = run_plain(pc, x, pages, n.min(PLAIN_STEPS));
     match outcome {
         Outcome::Done if went < n => {
-            let (more, last) = run_known(pc, x, pages, n - went);
+            let (more, last) = run_ready(pc, x, pages, n - went);
             (went + more, last)
         }
         _ => (went, outcome),

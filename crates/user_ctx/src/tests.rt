@@ -4,7 +4,6 @@ use call_table::{Answer, Bytes, Kind, RIGHT_READ, RIGHT_RUN, RIGHT_WRITE};
 use page_set::Pages;
 use std::alloc::Global;
 use std::process::Abort;
-use std::test::Fail;
 
 /// Where the words of a process stand, with the right to read and execute.
 const CODE: u32 = 0x1000;
@@ -401,30 +400,69 @@ const LIMITS: [(u32, u32, u32, Stop); 8] = [
     (0x7000_0001, BASE, 5, Stop::Went),
 ];
 
+/// What is done with a process, and what is then told.
+#[derive(Clone, Copy)]
+enum Act {
+    /// It runs at most so many steps: how many went, and how the last one came out.
+    Runs(u32, u32, Stop),
+    /// Its step maps pages, and it then has so many.
+    Grows(u32),
+    /// It asks at a call of this number, with these arguments and bytes.
+    Asks(u32, [u32; 6], &'static [u8]),
+    /// Its call returns.
+    Gives(i32, &'static [u8], Kind),
+    /// It enters a handler: signal, handler, restorer, mask.
+    Enters(u8, u32, u32, u32),
+    /// It has made so many steps.
+    Counts(u32),
+    /// It runs to its exit, with this in a2.
+    Ends(u32),
+}
+
+const HEAP: [Act; 5] = [
+    Act::Runs(100, 3, Stop::Grows),
+    Act::Grows(8),
+    Act::Runs(100, 5, Stop::Grows),
+    Act::Grows(8),
+    Act::Ends(0),
+];
+
+const WRITING: [Act; 5] = [
+    Act::Runs(100, 2, Stop::AtCall),
+    Act::Asks(9, [1, 0x3FFE, 4, 0, 0, 0], &[0x80, 0xFF, 0x7F, 0x01]),
+    Act::Gives(-9, &[], Kind::Plain),
+    Act::Counts(2),
+    Act::Ends(0xFFFF_FFF7),
+];
+
+const READING: [Act; 3] = [
+    Act::Runs(100, 2, Stop::AtCall),
+    Act::Gives(3, &[1, 2, 3], Kind::Plain),
+    Act::Ends(0x0103_0201),
+];
+
+const HANDLING: [Act; 7] = [
+    Act::Runs(100, 1, Stop::AtCall),
+    Act::Gives(7, &[], Kind::Plain),
+    Act::Enters(10, 0x1014, 0x1234, 0x42),
+    Act::Runs(100, 1, Stop::AtCall),
+    Act::Asks(16, [0x42, 5, 0, 0, 0, 0], &[]),
+    Act::Gives(0, &[], Kind::Return),
+    Act::Ends(7),
+];
+
+const LOCAL: [Act; 2] = [
+    Act::Runs(100, 11, Stop::AtCall),
+    Act::Asks(1, [0xFFFF_FFF2, 12, 0xFFFF_FFDA, 0xFFFF_FFF2, 0, 0], &[]),
+];
+
 fn map(rt: &impl Abort, pages: &mut Pages, page: u32, rights: u8) {
     assert!(rt; page < 0x10_0000 && rights < 8 && !pages.is_mapped(page));
     assert_eq!(rt; pages.map_zero(page, rights), Ok(()));
 }
 
-/// A process at these words, with two pages of data from 0x3000 on and one to be read at 0x6000.
-fn process(rt: &impl Abort, alloc: Global, words: &[u32], a0: u32, a1: u32) -> User {
-    process_with(rt, alloc, words, RIGHT_READ | RIGHT_RUN, a0, a1)
-}
-
-/// The same, where the page of the words has these rights.
-fn process_with(
-    rt: &impl Abort,
-    alloc: Global,
-    words: &[u32],
-    rights: u8,
-    a0: u32,
-    a1: u32,
-) -> User {
-    let pages = pages_with(rt, alloc, words, rights);
-    User::new(CODE, 0x5000, a0, a1, pages, BASE)
-}
-
-/// The pages of such a process.
+/// The pages of a process at these words, whose page has these rights, with two pages of data from 0x3000 on and one to be
+/// read at 0x6000.
 fn pages_with(rt: &impl Abort, alloc: Global, words: &[u32], rights: u8) -> Pages {
     let mut pages = Pages::new(alloc);
     map(rt, &mut pages, 1, rights);
@@ -434,64 +472,172 @@ fn pages_with(rt: &impl Abort, alloc: Global, words: &[u32], rights: u8) -> Page
     map(rt, &mut pages, 0x7_0000, RIGHT_READ);
     pages.write(0x3FFE, &[0x80, 0xFF, 0x7F, 0x01]);
     let mut at = CODE;
-    for i in 0..words.len() {
-        pages.write(at, &words[i].to_le_bytes());
+    for word in words {
+        pages.write(at, &word.to_le_bytes());
         at = at.wrapping_add(4);
     }
     pages
 }
 
-/// What a process has in a2 at its exit.
-fn result_of(alloc: Global, user: &mut User) -> Option<u32> {
-    match user.run(100) {
-        (_, Stop::AtCall) => match user.request(alloc) {
-            Ok(request) => Some(request.args[2]),
-            Err(_) => None,
+/// A process at these words.
+fn process(rt: &impl Abort, alloc: Global, words: &[u32], a0: u32, a1: u32) -> User {
+    let pages = pages_with(rt, alloc, words, RIGHT_READ | RIGHT_RUN);
+    User::new(CODE, 0x5000, a0, a1, pages, BASE)
+}
+
+/// What a process asks that is at a forwarded call.
+fn asks(
+    rt: &impl Abort,
+    alloc: Global,
+    user: &mut User,
+    number: u32,
+    args: &[u32; 6],
+    bytes: &[u8],
+) {
+    match user.run(1) {
+        (0, Stop::AtCall) => match user.request(alloc) {
+            Ok(request) => {
+                assert_eq!(rt; (request.number, request.room), (number, true));
+                assert_eq!(rt; request.args.as_slice(), args.as_slice());
+                assert_eq!(rt; request.bytes.as_slice(), bytes);
+            }
+            Err(_) => assert!(rt; false),
         },
-        _ => None,
+        _ => assert!(rt; false),
     }
+}
+
+/// What a process has in a0, a2 and a3 at its exit.
+fn ends(rt: &impl Abort, alloc: Global, user: &mut User) -> (u32, u32, u32) {
+    match user.run(10_000) {
+        (_, Stop::AtCall) => match user.request(alloc) {
+            Ok(request) => (request.args[0], request.args[2], request.args[3]),
+            Err(_) => (0, 0, 0),
+        },
+        _ => {
+            assert!(rt; false);
+            (0, 0, 0)
+        }
+    }
+}
+
+fn grows(rt: &impl Abort, user: &mut User, need: u32) {
+    match user.run(1) {
+        (0, Stop::Grows) => assert_eq!(rt; user.grow(), Ok(())),
+        _ => assert!(rt; false),
+    }
+    assert_eq!(rt; user.need(), need);
+}
+
+fn gives(rt: &impl Abort, alloc: Global, user: &mut User, value: i32, bytes: &[u8], kind: Kind) {
+    match Bytes::from_slice(alloc, bytes) {
+        Ok(bytes) => user.give(&Answer { value, bytes, kind }),
+        Err(_) => assert!(rt; false),
+    }
+}
+
+fn enters(rt: &impl Abort, user: &mut User, signal: u8, handler: u32, restorer: u32, mask: u32) {
+    assert!(rt; user.frame_room());
+    assert!(rt; user.push_frame(signal, handler, restorer, mask));
+}
+
+fn does(rt: &impl Abort, alloc: Global, user: &mut User, act: &Act) {
+    match *act {
+        Act::Runs(most, went, stop) => assert_eq!(rt; user.run(most), (went, stop)),
+        Act::Grows(need) => grows(rt, user, need),
+        Act::Asks(number, args, bytes) => asks(rt, alloc, user, number, &args, bytes),
+        Act::Gives(value, bytes, kind) => gives(rt, alloc, user, value, bytes, kind),
+        Act::Enters(signal, handler, restorer, mask) => {
+            enters(rt, user, signal, handler, restorer, mask)
+        }
+        Act::Counts(count) => assert_eq!(rt; user.count(), count),
+        Act::Ends(want) => assert_eq!(rt; ends(rt, alloc, user).1, want),
+    }
+}
+
+fn acts(rt: &impl Abort, alloc: Global, user: &mut User, all: &[Act]) {
+    for one in all {
+        does(rt, alloc, user, one);
+    }
+}
+
+/// A process at these words does these.
+fn story(rt: &impl Abort, alloc: Global, words: &[u32], a0: u32, a1: u32, all: &[Act]) {
+    let mut user = process(rt, alloc, words, a0, a1);
+    user.set_pid(12);
+    assert_eq!(rt; user.pid(), 12);
+    acts(rt, alloc, &mut user, all);
+}
+
+#[test]
+fn calls_and_their_returns(rt: HostRuntime) {
+    let alloc = rt.alloc();
+    story(&rt, alloc, &BREAKS, 0, 0, &HEAP);
+    story(&rt, alloc, &WRITES, 1, 0x3FFE, &WRITING);
+    story(&rt, alloc, &READS, 0, 0x3FFE, &READING);
+    story(&rt, alloc, &HANDLES, 0, 5, &HANDLING);
+    story(&rt, alloc, &LOCALS, 0, 0, &LOCAL);
+}
+
+/// What an instruction leaves in a2.
+fn leaves(rt: &impl Abort, alloc: Global, row: &(u32, u32, u32, u32, u32)) {
+    let (first, second, a0, a1, want) = *row;
+    let mut user = process(rt, alloc, &[first, second, SET_EXIT, ECALL], a0, a1);
+    assert_eq!(rt; ends(rt, alloc, &mut user).1, want, "{first}");
 }
 
 #[test]
 fn each_instruction_has_its_result(rt: HostRuntime) {
-    for (first, second, a0, a1, want) in RESULTS {
-        let words = [first, second, SET_EXIT, ECALL];
-        let mut user = process(&rt, rt.alloc(), &words, a0, a1);
-        assert_eq!(rt; result_of(rt.alloc(), &mut user), Some(want), "{first}");
+    for row in &RESULTS {
+        leaves(&rt, rt.alloc(), row);
     }
+}
+
+fn faults(rt: &impl Abort, alloc: Global, row: &(u32, u32, u32, u8)) {
+    let (word, a0, a1, signal) = *row;
+    let mut user = process(rt, alloc, &[word], a0, a1);
+    let (went, stop) = user.run(10);
+    assert_eq!(rt; stop, Stop::Fault(signal), "{word}");
+    assert_eq!(rt; (user.step(), user.count()), (Stop::Fault(signal), went));
 }
 
 #[test]
 fn each_fault_has_its_signal(rt: HostRuntime) {
-    for (word, a0, a1, signal) in FAULTS {
-        let mut user = process(&rt, rt.alloc(), &[word], a0, a1);
-        let (went, stop) = user.run(10);
-        assert_eq!(rt; stop, Stop::Fault(signal), "{word}");
-        assert_eq!(rt; user.step(), Stop::Fault(signal));
-        assert_eq!(rt; user.count(), went);
+    for row in &FAULTS {
+        faults(&rt, rt.alloc(), row);
     }
 }
 
-/// A process that changes its own code has these in a0, a2 and a3 at its exit after 100 rounds, run at once or step by step.
+/// Runs step by step as many steps as another process made at once.
+fn steps(rt: &impl Abort, user: &mut User, count: u32) {
+    for _i in 0..count {
+        assert_eq!(rt; user.step(), Stop::Went);
+    }
+    assert_eq!(rt; user.step(), Stop::AtCall);
+}
+
+/// A process that changes its own code has these in a0, a2 and a3 at its exit after 100 rounds.
 fn changes_itself(rt: &impl Abort, alloc: Global, words: &[u32], want: (u32, u32, u32)) {
     let rights = RIGHT_READ | RIGHT_WRITE | RIGHT_RUN;
-    let mut whole = process_with(rt, alloc, words, rights, 0, 100);
-    let mut single = process_with(rt, alloc, words, rights, 0, 100);
-    let (went, stop) = whole.run(10_000);
-    assert_eq!(rt; stop, Stop::AtCall);
-    assert!(rt; went > 500);
-    for _i in 0..went {
-        assert_eq!(rt; single.step(), Stop::Went);
-    }
-    assert_eq!(rt; single.step(), Stop::AtCall);
-    for user in [&whole, &single] {
-        match user.request(alloc) {
-            Ok(request) => {
-                assert_eq!(rt; (request.args[0], request.args[2], request.args[3]), want)
-            }
-            Err(_) => assert!(rt; false),
-        }
-    }
+    let pages = pages_with(rt, alloc, words, rights);
+    let mut user = User::new(CODE, 0x5000, 0, 100, pages, BASE);
+    assert_eq!(rt; ends(rt, alloc, &mut user), want);
+    assert!(rt; user.count() > 500);
+    changes_in_steps(rt, alloc, words, user.count(), want);
+}
+
+fn changes_in_steps(
+    rt: &impl Abort,
+    alloc: Global,
+    words: &[u32],
+    count: u32,
+    want: (u32, u32, u32),
+) {
+    let rights = RIGHT_READ | RIGHT_WRITE | RIGHT_RUN;
+    let pages = pages_with(rt, alloc, words, rights);
+    let mut user = User::new(CODE, 0x5000, 0, 100, pages, BASE);
+    steps(rt, &mut user, count);
+    assert_eq!(rt; ends(rt, alloc, &mut user), want);
 }
 
 #[test]
@@ -500,154 +646,76 @@ fn code_that_changes_is_executed_as_it_is(rt: HostRuntime) {
     changes_itself(&rt, rt.alloc(), &CHANGES_TWO_WORDS, (79_300, 50, 51));
 }
 
+/// A brk at this a0, how it answers, and how many pages there are then.
+fn limit(rt: &impl Abort, alloc: Global, row: &(u32, u32, u32, Stop)) {
+    let (a0, answer, need, how) = *row;
+    // the break's answer is then moved to a2
+    let words = [SET_BRK, ECALL, 0x0005_0613, SET_EXIT, ECALL];
+    let mut user = process(rt, alloc, &words, a0, 0);
+    match how {
+        Stop::Grows => {
+            assert_eq!(rt; user.run(2), (1, Stop::Grows), "{a0}");
+            grows(rt, &mut user, need);
+        }
+        _ => assert_eq!(rt; user.run(2), (2, Stop::Went), "{a0}"),
+    }
+    assert_eq!(rt; (user.count(), user.need()), (2, need), "{a0}");
+    assert_eq!(rt; ends(rt, alloc, &mut user).1, answer, "{a0}");
+}
+
 #[test]
 fn a_break_has_its_limits(rt: HostRuntime) {
-    for (a0, answer, need, how) in LIMITS {
-        // the break's answer is then moved to a2
-        let words = [SET_BRK, ECALL, 0x0005_0613, SET_EXIT, ECALL];
-        let mut user = process(&rt, rt.alloc(), &words, a0, 0);
-        let (went, stop) = user.run(2);
-        if went == 1 && stop == Stop::Grows {
-            assert_eq!(rt; how, Stop::Grows, "{a0}");
-            match user.step() {
-                Stop::Grows => assert_eq!(rt; user.grow(), Ok(())),
-                _ => assert!(rt; false),
-            }
-        } else {
-            assert_eq!(rt; (went, stop, how), (2, Stop::Went, Stop::Went), "{a0}");
-        }
-        assert_eq!(rt; (user.count(), user.need()), (2, need), "{a0}");
-        assert_eq!(rt; result_of(rt.alloc(), &mut user), Some(answer), "{a0}");
+    for row in &LIMITS {
+        limit(&rt, rt.alloc(), row);
     }
+}
+
+/// How a brk comes out where the heap begins at 0x6FFFF000.
+fn highest(rt: &impl Abort, alloc: Global, a0: u32, went: u32, stop: Stop) {
+    let pages = pages_with(rt, alloc, &[SET_BRK, ECALL], RIGHT_READ | RIGHT_RUN);
+    let mut user = User::new(CODE, 0x5000, a0, 0, pages, 0x6FFF_F000);
+    assert_eq!(rt; user.run(2), (went, stop));
 }
 
 /// The heap may end at 0x70000000, and no higher.
 #[test]
 fn a_break_has_a_highest_address(rt: HostRuntime) {
-    for (a0, went, stop) in [(0x7000_0000, 1, Stop::Grows), (0x7000_0001, 2, Stop::Went)] {
-        let pages = pages_with(&rt, rt.alloc(), &[SET_BRK, ECALL], RIGHT_READ | RIGHT_RUN);
-        let mut user = User::new(CODE, 0x5000, a0, 0, pages, 0x6FFF_F000);
-        assert_eq!(rt; user.run(2), (went, stop));
-    }
+    highest(&rt, rt.alloc(), 0x7000_0000, 1, Stop::Grows);
+    highest(&rt, rt.alloc(), 0x7000_0001, 2, Stop::Went);
 }
 
-#[test]
-fn new_pages_of_the_heap_are_zero(rt: HostRuntime) {
-    let mut user = process(&rt, rt.alloc(), &BREAKS, 0, 0);
-    for (went, need) in [(3, 8), (5, 8)] {
-        let (steps, stop) = user.run(100);
-        assert_eq!(rt; (steps, stop), (went, Stop::Grows));
-        match user.step() {
-            Stop::Grows => assert_eq!(rt; user.grow(), Ok(())),
-            _ => assert!(rt; false),
+/// A child and a copy of a process at its call go on by themselves.
+fn goes_on(rt: &impl Abort, alloc: Global, user: &User) {
+    match user.fork_copy(9) {
+        Ok(mut child) => {
+            assert_eq!(rt; (child.pid(), child.count(), child.need()), (9, 1, 5));
+            assert_eq!(rt; ends(rt, alloc, &mut child).1, 0);
         }
-        assert_eq!(rt; user.need(), need);
+        Err(_) => assert!(rt; false),
     }
-    assert_eq!(rt; result_of(rt.alloc(), &mut user), Some(0));
-}
-
-/// Runs a process up to its forwarded call.
-fn run_to_call(rt: &impl Abort, user: &mut User) {
-    let (_, stop) = user.run(100);
-    assert_eq!(rt; stop, Stop::AtCall);
-}
-
-fn answer(alloc: Global, value: i32, bytes: &[u8], kind: Kind) -> Result<Answer, Fail> {
-    Ok(Answer {
-        value,
-        bytes: Bytes::from_slice(alloc, bytes)?,
-        kind,
-    })
-}
-
-#[test]
-fn a_write_hands_over_its_bytes(rt: HostRuntime) -> Result<(), Fail> {
-    let mut user = process(&rt, rt.alloc(), &WRITES, 1, 0x3FFE);
-    match user.run(100) {
-        (went, Stop::AtCall) => {
-            assert_eq!(rt; went, 2);
-            let request = user.request(rt.alloc())?;
-            assert_eq!(rt; (request.number, request.room), (9, true));
-            assert_eq!(rt; request.args, [1, 0x3FFE, 4, 0, 0, 0]);
-            assert_eq!(rt;
-                request.bytes.as_slice(),
-                [0x80, 0xFF, 0x7F, 0x01].as_slice()
-            );
+    match user.copy() {
+        Ok(mut copy) => {
+            assert_eq!(rt; (copy.pid(), copy.run(100)), (0, (0, Stop::AtCall)));
+            assert_eq!(rt; copy.count(), 1);
         }
-        _ => assert!(rt; false),
+        Err(_) => assert!(rt; false),
     }
-    user.give(&answer(rt.alloc(), -9, &[], Kind::Plain)?);
-    assert_eq!(rt; user.count(), 2);
-    assert_eq!(rt; result_of(rt.alloc(), &mut user), Some(0xFFFF_FFF7));
-    Ok(())
 }
 
 #[test]
-fn a_read_is_given_its_bytes(rt: HostRuntime) -> Result<(), Fail> {
-    let mut user = process(&rt, rt.alloc(), &READS, 0, 0x3FFE);
-    run_to_call(&rt, &mut user);
-    user.give(&answer(rt.alloc(), 3, &[1, 2, 3], Kind::Plain)?);
-    assert_eq!(rt; result_of(rt.alloc(), &mut user), Some(0x0103_0201));
-    Ok(())
-}
-
-#[test]
-fn a_handler_is_entered_and_left(rt: HostRuntime) -> Result<(), Fail> {
+fn a_child_goes_on_by_itself(rt: HostRuntime) {
     let mut user = process(&rt, rt.alloc(), &HANDLES, 0, 5);
-    run_to_call(&rt, &mut user);
-    user.give(&answer(rt.alloc(), 7, &[], Kind::Plain)?);
-    assert!(rt; user.frame_room());
-    assert!(rt; user.push_frame(10, 0x1014, 0x1234, 0x42));
-    match user.run(100) {
-        (went, Stop::AtCall) => {
-            assert_eq!(rt; went, 1);
-            let request = user.request(rt.alloc())?;
-            assert_eq!(rt; (request.number, request.room), (16, true));
-            assert_eq!(rt; request.args, [0x42, 5, 0, 0, 0, 0]);
-            assert_eq!(rt; request.bytes.len(), 0);
-        }
-        _ => assert!(rt; false),
-    }
-    user.give(&answer(rt.alloc(), 0, &[], Kind::Return)?);
-    assert_eq!(rt; result_of(rt.alloc(), &mut user), Some(7));
-    Ok(())
+    assert_eq!(rt; user.run(100), (1, Stop::AtCall));
+    goes_on(&rt, rt.alloc(), &user);
+    gives(&rt, rt.alloc(), &mut user, 9, &[], Kind::Fork);
+    assert_eq!(rt; (user.pid(), ends(&rt, rt.alloc(), &mut user).1), (0, 9));
 }
 
 #[test]
-fn a_child_goes_on_by_itself(rt: HostRuntime) -> Result<(), Fail> {
-    let mut user = process(&rt, rt.alloc(), &HANDLES, 0, 5);
-    run_to_call(&rt, &mut user);
-    let mut child = user.fork_copy(9)?;
-    let mut copy = user.copy()?;
-    user.give(&answer(rt.alloc(), 9, &[], Kind::Fork)?);
-    assert_eq!(rt; (user.pid(), child.pid(), copy.pid()), (0, 9, 0));
-    assert_eq!(rt; (child.count(), child.need()), (1, 5));
-    assert_eq!(rt; result_of(rt.alloc(), &mut user), Some(9));
-    assert_eq!(rt; result_of(rt.alloc(), &mut child), Some(0));
-    run_to_call(&rt, &mut copy);
-    assert_eq!(rt; copy.count(), 1);
-    Ok(())
-}
-
-#[test]
-fn calls_that_end_here(rt: HostRuntime) -> Result<(), Fail> {
-    let mut user = process(&rt, rt.alloc(), &LOCALS, 0, 0);
-    user.set_pid(12);
-    match user.run(100) {
-        (went, Stop::AtCall) => {
-            assert_eq!(rt; went, 11);
-            let request = user.request(rt.alloc())?;
-            assert_eq!(rt;
-                (request.args[1], request.args[2], request.args[3]),
-                (12, 0xFFFF_FFDA, 0xFFFF_FFF2)
-            );
-        }
-        _ => assert!(rt; false),
-    }
+fn processes_stand_in_a_list(rt: HostRuntime) {
     let mut users = Users::new(rt.alloc());
-    users.push(user)?;
-    assert_eq!(rt; users.len(), 1);
-    assert_eq!(rt; users.get(0).map(User::pid), Some(12));
+    let user = process(&rt, rt.alloc(), &[], 0, 0);
+    assert!(rt; users.push(user).is_ok());
+    assert_eq!(rt; (users.len(), users.get(0).map(User::pid)), (1, Some(0)));
     assert!(rt; users.pop().is_some());
-    Ok(())
 }

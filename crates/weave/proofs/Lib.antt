@@ -1,3 +1,3 @@
-pub mod Walks
+pub mod Choosing
 pub mod Orders
 pub mod Owners

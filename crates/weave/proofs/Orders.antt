@@ -68,7 +68,7 @@ module _ (P Q : Event → Type 0) (R : Event → Event → Type 0) (o : IsOrder 
   order_merged (x ∷ xs) ys p r q s = order_until x xs ys p.0 r.0 (λ zs z w. order_merged xs zs p.1 r.1 z w) q s
 
 -- the two orders
-true_precedes : (y x : Event) → is_earlier y x ≡ true → Precedes y x
+pub true_precedes : (y x : Event) → is_earlier y x ≡ true → Precedes y x
 true_precedes y x e = go (nat_lt y.stamp x.stamp) (y.stamp == x.stamp) (nat_lt y.node x.node) refl refl refl e
   where
     go : (a b c : Bool) → nat_lt y.stamp x.stamp ≡ a → (y.stamp == x.stamp) ≡ b → nat_lt y.node x.node ≡ c → (a || (b && c)) ≡ true → Precedes y x
@@ -77,7 +77,7 @@ true_precedes y x e = go (nat_lt y.stamp x.stamp) (y.stamp == x.stamp) (nat_lt y
     go false true false p q r e = absurd cc
     go false false c p q r e = absurd cc
 
-false_may : (y x : Event) → is_earlier y x ≡ false → MayPrecede x y
+pub false_may : (y x : Event) → is_earlier y x ≡ false → MayPrecede x y
 false_may y x e = go (nat_lt y.stamp x.stamp) (y.stamp == x.stamp) (nat_lt y.node x.node) refl refl refl e
   where
     over : (a b : ℕ) → nat_lt a b ≡ false → b ≤ a
@@ -97,6 +97,25 @@ precedes_trans a b c (inl l) (inl m) = inl (omega arith)
 precedes_trans a b c (inl l) (inr m) = inl (omega arith)
 precedes_trans a b c (inr l) (inl m) = inl (omega arith)
 precedes_trans a b c (inr l) (inr m) = inr (l.0 ∙ m.0, omega arith)
+
+pub precedes_may : (a b c : Event) → Precedes a b → MayPrecede b c → Precedes a c
+precedes_may a b c (inl l) (inl m) = inl (omega arith)
+precedes_may a b c (inl l) (inr m) = inl (let m0 = m.0 in omega arith)
+precedes_may a b c (inr l) (inl m) = inl (let l0 = l.0 in omega arith)
+precedes_may a b c (inr l) (inr m) = inr (l.0 ∙ m.0, let l1 = l.1 in let m1 = m.1 in omega arith)
+
+pub precedes_true : (a b : Event) → Precedes a b → is_earlier a b ≡ true
+precedes_true a b p = go (is_earlier a b) refl
+  where
+    clash : Precedes a b → MayPrecede b a → ⊥
+    clash (inl l) (inl m) = omega arith
+    clash (inl l) (inr m) = let m0 = m.0 in omega arith
+    clash (inr l) (inl m) = let l0 = l.0 in omega arith
+    clash (inr l) (inr m) = let l1 = l.1 in let m1 = m.1 in omega arith
+
+    go : (r : Bool) → is_earlier a b ≡ r → is_earlier a b ≡ true
+    go true t = t
+    go false t = absurd (clash p (false_may a b t))
 
 may_trans : (a b c : Event) → MayPrecede a b → MayPrecede b c → MayPrecede a c
 may_trans a b c (inl l) (inl m) = inl (omega arith)

@@ -1,30 +1,17 @@
 // The journals of all nodes, woven into one list.
-ghost use Rattle.std.specs.Prelude.{◌≡◌, ℕ, [], IfOk, IsPermutation};
-ghost use Rattle.weave.specs.Merges.{woven_from};
+ghost use Rattle.std.specs.Prelude.{◌≡◌, ℕ, IfOk, IsPermutation};
 ghost use Rattle.weave.specs.Weaves.{all_events, own_events, events_at, AreSorted, IsSorted, AreJournals, IsRising};
 
-use crate::merging::merge_lists;
+use crate::merging::merge_all;
 use call_table::{ListOf, NoMemory};
-use node_event::{Event, Events, Journal};
+use node_event::{Events, Journal};
 use std::alloc::Global;
 
 /// The journals of nodes, that of node 0 first.
 pub type Journals = ListOf<Journal>;
 
-/// One journal after another, merged into what is woven already.
-#[tactic(auto, using(crate::proofs::Walks::one_more, crate::proofs::Walks::all_woven))]
-fn weave_all(alloc: Global, journals: &[Journal]) -> Result<Vec<Event>, NoMemory>
-    ensures { IfOk result (λ all. all.items ≡ woven_from [] journals.now) }
-{
-    let mut woven = Vec::new(alloc);
-    for journal in journals {
-        woven = merge_lists(alloc, woven.as_slice(), journal.as_slice())?;
-    }
-    Ok(woven)
-}
-
 /// The events of all journals in one list, by stamp, and by node where stamps are equal. For a given number of journals the time is linear in the
-/// events: with eight, there are at most eight copies and eight comparisons for each event. It takes the memory of two such lists.
+/// events: each is copied once, after one comparison with the next event of each other journal. It takes the memory of the list.
 pub fn weave(alloc: Global, journals: &Journals) -> Result<Events, NoMemory>
     // The same events and no other.
     ensures same { IfOk result (λ woven. IsPermutation (all_events journals.now) woven) }
@@ -35,6 +22,6 @@ pub fn weave(alloc: Global, journals: &Journals) -> Result<Events, NoMemory>
     ensures rising { IfOk result (λ woven. AreJournals 0 journals.now → IsRising woven) }
     ensures own { IfOk result (λ woven. AreJournals 0 journals.now → (n : ℕ) → own_events n woven ≡ events_at n journals.now) }
 {
-    let woven = weave_all(alloc, journals.as_slice())?;
+    let woven = merge_all(alloc, journals.as_slice())?;
     Ok(Events::from_vec(woven))
 }

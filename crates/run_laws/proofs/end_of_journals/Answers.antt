@@ -1,4 +1,4 @@
-use Rattle.run_tokens.specs.Deeds.{all_noted}
+use Rattle.protocol.specs.Deeds.{all_noted}
 use Rattle.run_laws.specs.Histories.{mover}
 use Rattle.run_laws.proofs.Ending.{end_of_journals}
 use Rattle.run_laws.proofs.Stories.{mover_sound}

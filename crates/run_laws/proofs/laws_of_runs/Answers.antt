@@ -1,5 +1,5 @@
 use Rattle.std.proofs.Common.{sym, subst, List}
-use Rattle.run_tokens.specs.Deeds.{Noted}
+use Rattle.protocol.specs.Deeds.{Noted}
 use Rattle.run_laws.specs.Whole.{Holds}
 use Rattle.run_laws.specs.Carried.{CarriedRun, NoneStrange}
 use Rattle.run_laws.specs.Histories.{mover}

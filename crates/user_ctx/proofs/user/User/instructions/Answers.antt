@@ -1,4 +1,4 @@
-use Rattle.std.proofs.Common.{arith, ◌≡◌, ◌+◌, ◌≤◌}
+use Rattle.std.proofs.Common.{arith, ◌+◌, ◌≤◌}
 use Rattle.call_table.specs.declared.limit.TheConstants.{STEPS}
 use Rattle.user_ctx.proofs.Walks.{leads}
 use Rattle.user_ctx.proofs.Rights.{heap_ran}

@@ -1,5 +1,4 @@
-use Rattle.std.proofs.Common.{arith, refl, ◌≡◌, ◌≢◌, ◌+◌, ◌-◌, ◌<◌, ◌≤◌}
-use Rattle.user_ctx.specs.Stopping.{EndsAs}
+use Rattle.std.proofs.Common.{arith, refl, ◌+◌, ◌<◌}
 use Rattle.user_ctx.proofs.Walks.{walked_on, walked_step, walked_stop, walked_whole, stopped}
 use Rattle.user_spec.specs.declared.outcome.Stop.TheVariants as stop
 use Rattle.user_ctx.proofs.user.User.run.Goals as goal

@@ -1,0 +1,7 @@
+use Rattle.std.proofs.Common.{◌≡◌, drop}
+use Rattle.std.specs.Str.Parse.{digits_value, digits_value_after}
+use Rattle.mosix_words.proofs.number.value_of.Given as goal
+
+-- the digits that are left, after those that were read
+abbrev pub invariant-loop-byte : goal.invariant-loop-byte
+invariant-loop-byte l = digits_value 10 l.digits ≡ digits_value_after 10 l.value (drop l.byte-index l.digits)

@@ -1,0 +1,10 @@
+pub mod Faults
+pub mod Keywords
+pub mod Lexing
+pub mod Numbers
+pub mod Opens
+pub mod Orders
+pub mod Outcomes
+pub mod Printing
+pub mod Report
+pub mod Script

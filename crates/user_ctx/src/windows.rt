@@ -1,0 +1,196 @@
+// The pages whose words are ready, and instructions by them.
+ghost use Rattle.std.specs.Prelude.{◌≡◌, ◌≢◌, ◌≤◌, ◌<◌, ◌+◌, ◌*◌, ◌/◌, ◌%◌, ◌^◌, ◌∷◌, drop, Some, IfSome, true, false};
+ghost use Rattle.user_spec.specs.Instruction.{one_instruction, ran};
+ghost use Rattle.user_ctx.specs.Stopping.{core};
+ghost use Rattle.user_ctx.specs.Windows.{IsReady, IsReadyBut, AreReady};
+ghost use Rattle.user_ctx.specs.Blocks.{Keeps};
+
+use crate::blocks::{Gone, run_page};
+use crate::step::step;
+use crate::window::Window;
+use page_set::Pages;
+use user_spec::outcome::Outcome;
+
+/// Pages from this address on are not made ready.
+const LAST: u32 = 0xFFFF_F000;
+
+/// The pages whose words are ready: they lie from `low` up to `end`.
+#[derive(Drop)]
+pub struct Windows {
+    pub slots: [Window; 4],
+    pub low: u32,
+    pub end: u32,
+    /// The page that the next new one takes the place of.
+    pub next: usize,
+}
+
+/// Ready instructions of one page.
+#[inline(always)]
+#[tactic(auto, using(crate::proofs::Made::watched_at, crate::proofs::Made::set_same))]
+fn run_slot(
+    slots: &mut [Window; 4],
+    slot: usize,
+    low: u32,
+    end: u32,
+    pc: &mut u32,
+    x: &mut [u32; 32],
+    pages: &mut Pages,
+    n: u32,
+) -> (u32, Gone)
+    requires zero { x.old ≡ 0 ∷ drop 1 x.old }
+    requires aligned { pc.old % 4 ≡ 0 }
+    requires slot { slot < 4 }
+    requires ready { IsReady pages.old low end slots.old }
+    requires end { end < 0xFFFFF001 }
+    ensures zero { x.new ≡ 0 ∷ drop 1 x.new }
+    ensures most { result.0 ≤ n }
+    ensures some { result.1 ≢ Gone.Left → 0 < result.0 }
+    ensures went { ran result.0 (core pc.old x.old pages.old) ≡ Some (core pc.new x.new pages.new) }
+    ensures keeps { Keeps result.1 low end pages.old pages.new }
+    ensures slots { slots.new ≡ slots.old }
+{
+    let (went, gone) = run_page(&mut slots[slot], low, end, pc, x, pages, n);
+    (went, gone)
+}
+
+/// Forgets the words that four bytes from an address on touch.
+#[inline(never)]
+#[tactic(auto, using(crate::proofs::Made::forgot_none, crate::proofs::Made::forgot_one, crate::proofs::Made::forgot_all, crate::proofs::Made::but_at))]
+fn forget_all(slots: &mut [Window; 4], addr: u32, low: u32, end: u32, pages: &Pages)
+    requires { IsReadyBut addr pages.now low end slots.old }
+    ensures { IsReady pages.now low end slots.new }
+{
+    for i in 0..4usize {
+        slots[i].forget(addr, pages);
+    }
+}
+
+#[tactic(auto, using(crate::proofs::Made::watched_at, crate::proofs::Made::ready_set))]
+fn learn_in(slots: &mut [Window; 4], slot: usize, at: u32, low: u32, end: u32, pages: &Pages)
+    requires slot { slot < 4 }
+    requires ready { IsReady pages.now low end slots.old }
+    ensures { IsReady pages.now low end slots.new }
+{
+    slots[slot].learn(at, pages);
+}
+
+impl Windows {
+    /// Nothing is ready, where the first instruction stands at an address.
+    #[tactic(auto, using(crate::proofs::Made::ready_new))]
+    pub fn new(at: u32, pages: &Pages) -> Self
+        ensures { AreReady pages.now result }
+    {
+        let base = if at < LAST { at / 4096 * 4096 } else { 0 };
+        let window = Window::new(base, pages);
+        Windows {
+            slots: [window; 4],
+            low: base,
+            end: base + 4096,
+            next: 1,
+        }
+    }
+
+    fn find(&self, base: u32) -> Option<usize>
+        ensures { IfSome result (λ slot. slot < 4) }
+    {
+        for i in 0..4usize {
+            if self.slots[i].base == base {
+                return Some(i);
+            }
+        }
+        None
+    }
+
+    /// Takes in a page of which nothing is ready.
+    #[inline(never)]
+    #[cold]
+    #[tactic(auto, using(crate::proofs::Made::ready_renewed))]
+    fn renew(&mut self, base: u32, pages: &Pages) -> usize
+        requires aligned { base % 4096 ≡ 0 }
+        requires range { base + 4096 < 2 ^ 32 }
+        requires ready { AreReady pages.now self.old }
+        ensures slot { result < 4 }
+        ensures ready { AreReady pages.now self.new }
+    {
+        let slot = self.next;
+        self.slots[slot] = Window::new(base, pages);
+        self.low = self.low.min(base);
+        self.end = self.end.max(base + 4096);
+        self.next = (slot + 1) % 4;
+        slot
+    }
+
+    /// The place of the page from an address on.
+    fn slot_of(&mut self, base: u32, pages: &Pages) -> usize
+        requires aligned { base % 4096 ≡ 0 }
+        requires range { base + 4096 < 2 ^ 32 }
+        requires ready { AreReady pages.now self.old }
+        ensures slot { result < 4 }
+        ensures ready { AreReady pages.now self.new }
+    {
+        match self.find(base) {
+            Some(slot) => slot,
+            None => self.renew(base, pages),
+        }
+    }
+
+    /// Makes the word at an address ready, where that can be.
+    #[inline(never)]
+    pub fn learn(&mut self, at: u32, pages: &Pages)
+        requires { AreReady pages.now self.old }
+        ensures { AreReady pages.now self.new }
+    {
+        if at >= LAST {
+            return;
+        }
+        let slot = self.slot_of(at / 4096 * 4096, pages);
+        learn_in(&mut self.slots, slot, at, self.low, self.end, pages);
+    }
+
+    /// Ready instructions, of which so many are asked for: how many were done, and whether the next one is not left to a
+    /// plain step.
+    #[tactic(auto, using(crate::proofs::Made::ready_same, crate::proofs::Made::ready_but))]
+    pub fn run(&mut self, pc: &mut u32, x: &mut [u32; 32], pages: &mut Pages, n: u32) -> (u32, bool)
+        requires zero { x.old ≡ 0 ∷ drop 1 x.old }
+        requires ready { AreReady pages.old self.old }
+        ensures zero { x.new ≡ 0 ∷ drop 1 x.new }
+        ensures ready { AreReady pages.new self.new }
+        ensures most { result.0 ≤ n }
+        ensures some { result.1 ≡ true → 0 < result.0 }
+        ensures went { ran result.0 (core pc.old x.old pages.old) ≡ Some (core pc.new x.new pages.new) }
+    {
+        let at = *pc;
+        if at % 4 != 0 || at >= LAST {
+            return (0, false);
+        }
+        let slot = self.slot_of(at / 4096 * 4096, pages);
+        let (went, gone) = run_slot(&mut self.slots, slot, self.low, self.end, pc, x, pages, n);
+        match gone {
+            Gone::Left => (went, false),
+            Gone::Next => (went, true),
+            Gone::Jumped => (went, true),
+            Gone::Away(_) => (went, true),
+            Gone::Wrote(addr) => {
+                forget_all(&mut self.slots, addr, self.low, self.end, pages);
+                (went, true)
+            }
+        }
+    }
+
+    /// One instruction as it is written.
+    #[tactic(auto, using(crate::proofs::Made::ready_stored))]
+    pub fn step(&mut self, pc: &mut u32, x: &mut [u32; 32], pages: &mut Pages) -> Outcome
+        requires zero { x.old ≡ 0 ∷ drop 1 x.old }
+        requires ready { AreReady pages.old self.old }
+        ensures zero { x.new ≡ 0 ∷ drop 1 x.new }
+        ensures ready { AreReady pages.new self.new }
+        ensures is { one_instruction (core pc.old x.old pages.old) ≡ record { outcome = result; core = core pc.new x.new pages.new } }
+    {
+        let (outcome, wrote) = step(pc, x, pages);
+        match wrote {
+            None => {}
+            Some(addr) => forget_all(&mut self.slots, addr, self.low, self.end, pages),
+        }
+        outcome
+    }
+}
