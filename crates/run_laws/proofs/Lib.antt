@@ -29,9 +29,9 @@ pub mod Again
 pub mod SmallMachine
 pub mod Stories
 pub mod FirstTurn
-pub mod Carried
 pub mod Stamps
 pub mod Merge
+pub mod Weaving
 pub mod Weave
 pub mod Did
 pub mod Sleeps

@@ -23,6 +23,7 @@ pub mod Outcomes
 pub mod SmallMachine
 pub mod Histories
 pub mod Whole
+pub mod Weaving
 pub mod Carried
 pub mod Due
 pub mod Ends
