@@ -57,7 +57,7 @@ module _ (O : Ops) where
   rising_last [] l r = tt
   rising_last (x ∷ xs) l r = ((each_end (λ y. x.stamp ≤ y.stamp) xs (l ∷ []) r.0).0, rising_last xs l r.1)
 
-  stamped : (a b n s : ℕ) (ls : List (Post O)) → Each (λ l. (l.from ≡ n) × (l.stamp ≡ s)) ls → Each (λ l. l.stamp ≡ s) (for_link O a b ls)
+  pub stamped : (a b n s : ℕ) (ls : List (Post O)) → Each (λ l. (l.from ≡ n) × (l.stamp ≡ s)) ls → Each (λ l. l.stamp ≡ s) (for_link O a b ls)
   stamped a b n s [] m = tt
   stamped a b n s (l ∷ ls) m = elim ((a == l.from) && (b == l.to)) as (λ k. Each (λ l. l.stamp ≡ s) (cond k (l ∷ for_link O a b ls) (for_link O a b ls))) [ true ↦ (m.0.1, stamped a b n s ls m.1) | false ↦ stamped a b n s ls m.1 ]
 

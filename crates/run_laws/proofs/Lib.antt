@@ -35,6 +35,7 @@ pub mod Weaving
 pub mod Weave
 pub mod Did
 pub mod Cutting
+pub mod Gapless
 pub mod Skipping
 pub mod Sleeps
 pub mod Resting

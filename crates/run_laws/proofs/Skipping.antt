@@ -1,5 +1,5 @@
--- Where no stamp of a turn is at its end, no letter is odd: known is only each node's own order.
-use Rattle.std.proofs.Common.{◌≡◌, ℕ, zero, suc, ◌<◌, ◌≤◌, ◌==◌, ◌&&◌, ◌⊎◌, inl, inr, Bool, true, false, cond, Option, Some, None, List, [], ◌∷◌, ◌++◌, length, refl, sym, ap, ◌∙◌, subst, append_assoc, arith}
+-- No letter is odd where turns keep the rule of stamps exactly: known is only each node's own order.
+use Rattle.std.proofs.Common.{◌+◌, ◌≡◌, ℕ, zero, suc, ◌<◌, ◌≤◌, ◌==◌, ◌&&◌, ◌⊎◌, inl, inr, Bool, true, false, cond, Option, Some, None, List, [], ◌∷◌, ◌++◌, length, refl, sym, ap, ◌∙◌, subst, append_assoc, arith, ◌-◌, IfSome}
 use Rattle.std.proofs.lemmas.Bool.Decides.{leb_tells}
 use lib.Dec.{leb}
 use Rattle.protocol.specs.Ops.{Ops, Sound}
@@ -13,13 +13,17 @@ use Rattle.protocol.proofs.Process.{WayTells, way_tells}
 use Rattle.protocol.proofs.Stand.{Standing, reached_stands}
 use Rattle.run_laws.specs.UnderWay.{moves}
 use Rattle.run_laws.specs.Carried.{steps, world_of, Each, Sorted, Later, own_events, recorded, shown, posted_on, NoneStrange}
+use Rattle.run_laws.specs.Weaving.{own, Woven}
+use Rattle.run_laws.proofs.Gapless.{Exact, last_stamp, low_more, stamps_few}
+use Rattle.run_laws.proofs.Stamps.{rises}
+use Rattle.protocol.specs.Does.{next_stamp}
 use Rattle.run_laws.specs.Skipping.{Act, Made, Skipped, Lone, DidAll, all_posted, all_taken, journal, NoneSkipped}
 use Rattle.run_laws.proofs.Moves.{Balanced, path_balanced}
 use Rattle.run_laws.proofs.Odd.{few_lands}
 use Rattle.run_laws.proofs.Did.{line_usual, did_holds}
-use Rattle.run_laws.proofs.Weave.{did_woven, reached_so}
+use Rattle.run_laws.proofs.Weave.{marked, did_woven, reached_so}
 use Rattle.run_laws.proofs.Weaving.{posted_own, all-append}
-use Rattle.run_laws.proofs.Cutting.{clock_of, clock_is, cut, AllLate, cut_did, cut_posts, each_left, each_to, each_end, risen}
+use Rattle.run_laws.proofs.Cutting.{clock_of, clock_is, cut, AllLate, cut_did, cut_posts, each_left, each_to, each_end, stamped}
 
 -- the events up to a stamp
 abbrev low : ℕ → List Noted → List Noted
@@ -150,75 +154,178 @@ module _ (O : Ops) where
             omega (arith, far, less, few)
         fewer us l vs e _ f far = absurd far
 
-    below_end : (n : ℕ) (acts : List (Act O)) (l : Local O) → Lone O n acts l → clock_of O acts < stamp_end
-    below_end n [] l r = omega arith
-    below_end n (Made t ∷ before) l r = r.3
-    below_end n (Skipped a m ∷ before) l r = below_end n before r.0 r.1
-
-    -- a letter of a stamp up to the cut is plain, and none has a stamp at its end
+    -- a letter of a stamp up to the cut is plain
     abbrev Sent : ℕ → ℕ → Post O → Type 0
-    Sent T b l = (l.stamp < stamp_end) × (l.stamp ≤ T → Plain b l)
+    Sent T b l = l.stamp ≤ T → Plain b l
 
-    later : (T n : ℕ) (acts : List (Act O)) (l : Local O) → Lone O n acts l → ((a : ℕ) → Each (Sent T n) (all_taken O a n acts)) → AllLate O T acts → AllLate O (suc T) acts
-    later T n [] l r sent late = tt
-    later T n (Made t ∷ before) l r sent late = later T n before r.0 r.1 (λ a. each_left O (Sent T n) (all_taken O a n before) (at_front O t.taken a n) (sent a)) late
-    later T n (Skipped a m ∷ before) l r sent late = (
+    later : (T n : ℕ) (acts : List (Act O)) (l : Local O) → suc T < stamp_end → Lone O n acts l → ((a : ℕ) → Each (Sent T n) (all_taken O a n acts)) → AllLate O T acts → AllLate O (suc T) acts
+    later T n [] l far r sent late = tt
+    later T n (Made t ∷ before) l far r sent late = later T n before r.0 far r.1 (λ a. each_left O (Sent T n) (all_taken O a n before) (at_front O t.taken a n) (sent a)) late
+    later T n (Skipped a m ∷ before) l far r sent late = (
       go (leb_tells (suc T) m.stamp) (leb_tells (suc (suc T)) (clock_of O before)),
-      later T n before r.0 r.1 (λ c. each_left O (Sent T n) (all_taken O c n before) (cond (c == a) (m ∷ []) []) (sent c)) late.1,
+      later T n before r.0 far r.1 (λ c. each_left O (Sent T n) (all_taken O c n before) (cond (c == a) (m ∷ []) []) (sent c)) late.1,
     )
       where
         this : Sent T n m
         this = (each_end O (Sent T n) (all_taken O a n before) (m ∷ []) (subst (λ (k : Bool). Each (Sent T n) (all_taken O a n before ++ cond k (m ∷ []) [])) (same_numbers a a refl) (sent a))).0
 
-        bad : m.stamp ≤ T → IsOdd O n r.0 m → ⊥
-        bad less (inl x) = let y = this.0 in omega (arith, x, y)
-        bad less (inr (inl x)) = let y = (this.1 less).0 in let z = r.2 in omega (arith, x, y, z)
-        bad less (inr (inr (inl x))) = (this.1 less).1 x
-        bad less (inr (inr (inr x))) = let y = x.0 in let z = clock_is O n before r.0 r.1 in let e = below_end n before r.0 r.1 in omega (arith, y, z, e)
+        bad : m.stamp ≤ T → clock_of O before ≤ suc T → IsOdd O n r.0 m → ⊥
+        bad less soon (inl x) = omega (arith, x, less, far)
+        bad less soon (inr (inl x)) = let y = (this less).0 in let z = r.2 in omega (arith, x, y, z)
+        bad less soon (inr (inr (inl x))) = (this less).1 x
+        bad less soon (inr (inr (inr x))) = let y = x.0 in let z = clock_is O n before r.0 r.1 in omega (arith, y, z, soon, far)
 
         go : ((leb (suc T) m.stamp ≡ true) × (suc T ≤ m.stamp)) ⊎ ((leb (suc T) m.stamp ≡ false) × (m.stamp < suc T)) → ((leb (suc (suc T)) (clock_of O before) ≡ true) × (suc (suc T) ≤ clock_of O before)) ⊎ ((leb (suc (suc T)) (clock_of O before) ≡ false) × (clock_of O before < suc (suc T))) → (suc T ≤ m.stamp) ⊎ (suc T < clock_of O before)
         go (inl x) y = inl x.1
-        go (inr x) y = absurd (bad (omega (arith, x.1)) r.3.odd)
+        go (inr x) (inl y) = inr y.1
+        go (inr x) (inr y) = absurd (bad (omega (arith, x.1)) (omega (arith, y.1)) r.3.odd)
 
-    none_at : (T n : ℕ) (acts : List (Act O)) (l : Local O) → Lone O n acts l → stamp_end ≤ T → ((a : ℕ) → Each (Sent T n) (all_taken O a n acts)) → AllLate O T acts → NoneSkipped O acts
-    none_at T n [] l r far sent late = tt
-    none_at T n (Made t ∷ before) l r far sent late = none_at T n before r.0 r.1 far (λ a. each_left O (Sent T n) (all_taken O a n before) (at_front O t.taken a n) (sent a)) late
-    none_at T n (Skipped a m ∷ before) l r far sent late = go late.0
+    -- the rule of stamps up to a cut
+    cut_exact : (T n : ℕ) (acts : List (Act O)) (l : Local O) → Lone O n acts l → Exact O (cut O T acts) × (clock_of O acts ≤ T → last_stamp O (cut O T acts) ≡ clock_of O acts)
+    cut_exact T n [] l r = (tt, λ less. refl)
+    cut_exact T n (Made t ∷ before) l r = go (leb_tells t.event.stamp T) (cut_exact T n before r.0 r.1)
       where
-        this : Sent T n m
-        this = (each_end O (Sent T n) (all_taken O a n before) (m ∷ []) (subst (λ (k : Bool). Each (Sent T n) (all_taken O a n before ++ cond k (m ∷ []) [])) (same_numbers a a refl) (sent a))).0
+        go : ((leb t.event.stamp T ≡ true) × (t.event.stamp ≤ T)) ⊎ ((leb t.event.stamp T ≡ false) × (T < t.event.stamp)) → Exact O (cut O T before) × (clock_of O before ≤ T → last_stamp O (cut O T before) ≡ clock_of O before) → Exact O (cond (leb t.event.stamp T) (t ∷ cut O T before) (cut O T before)) × (t.event.stamp ≤ T → last_stamp O (cond (leb t.event.stamp T) (t ∷ cut O T before) (cut O T before)) ≡ t.event.stamp)
+        go (inl x) ih =
+            let up : r.0.clock < t.event.stamp = rises O n r.0 t l r.2 in
+            let was : r.0.clock ≡ clock_of O before = clock_is O n before r.0 r.1 in
+            let e : last_stamp O (cut O T before) ≡ r.0.clock = ih.1 (omega (arith, up, was, x.1)) ∙ sym was in
+            subst (λ (k : Bool). Exact O (cond k (t ∷ cut O T before) (cut O T before)) × (t.event.stamp ≤ T → last_stamp O (cond k (t ∷ cut O T before) (cut O T before)) ≡ t.event.stamp)) (sym x.0) ((subst (λ (k : ℕ). t.event.stamp ≡ next_stamp O k t.taken) (sym e) r.3.stamp_is, ih.0), λ less. refl)
+        go (inr x) ih = subst (λ (k : Bool). Exact O (cond k (t ∷ cut O T before) (cut O T before)) × (t.event.stamp ≤ T → last_stamp O (cond k (t ∷ cut O T before) (cut O T before)) ≡ t.event.stamp)) (sym x.0) (ih.0, λ less. absurd (omega (arith, less, x.1)))
+    cut_exact T n (Skipped a m ∷ before) l r = cut_exact T n before r.0 r.1
 
-        go : (T ≤ m.stamp) ⊎ (T < clock_of O before) → ⊥
-        go (inl x) = let y = this.0 in omega (arith, x, y, far)
-        go (inr x) = let y = below_end n before r.0 r.1 in omega (arith, x, y, far)
+    each_own : (P : Turn O → Type 0) (n : ℕ) (h : List (Turn O)) → Each P h → Each P (own (steps O) n h)
+    each_own P n [] p = tt
+    each_own P n (t ∷ h) p = go (t.event.node == n) (each_own P n h p.1)
+      where
+        go : (b : Bool) → Each P (own (steps O) n h) → Each P (cond b (t ∷ own (steps O) n h) (own (steps O) n h))
+        go true r = (p.0, r)
+        go false r = r
 
-    module _ (acts : ℕ → List (Act O)) (w : World O) (es : List Noted) (did : DidAll O acts w) (sorted : Sorted es) (own : (n : ℕ) → own_events n es ≡ journal O (acts n)) (few : length es < hops_end) where
-      all_sent : (T : ℕ) → ((n : ℕ) → AllLate O T (acts n)) → (a b : ℕ) → Each (Sent T b) (all_taken O a b (acts b))
-      all_sent T late a b =
+    -- no stamp is above L and at most s
+    abbrev Far : ℕ → ℕ → ℕ → Type 0
+    Far L s x = (x ≤ L) ⊎ (s < x)
+
+    abbrev Gap : ℕ → ℕ → List (Act O) → Type 0
+    Gap L s [] = Unit {0}
+    Gap L s (Made t ∷ before) = Far L s t.event.stamp × Gap L s before
+    Gap L s (Skipped a m ∷ before) = Gap L s before
+
+    gap_cut : (L T : ℕ) (acts : List (Act O)) → Each (λ t. t.event.stamp ≤ L) (cut O T acts) → Gap L T acts
+    gap_cut L T [] p = tt
+    gap_cut L T (Made t ∷ before) p = go (leb_tells t.event.stamp T) p (gap_cut L T before)
+      where
+        go : ((leb t.event.stamp T ≡ true) × (t.event.stamp ≤ T)) ⊎ ((leb t.event.stamp T ≡ false) × (T < t.event.stamp)) → Each (λ z. z.event.stamp ≤ L) (cond (leb t.event.stamp T) (t ∷ cut O T before) (cut O T before)) → (Each (λ z. z.event.stamp ≤ L) (cut O T before) → Gap L T before) → Far L T t.event.stamp × Gap L T before
+        go (inl x) p f = let q = subst (λ (k : Bool). Each (λ z. z.event.stamp ≤ L) (cond k (t ∷ cut O T before) (cut O T before))) x.0 p in (inl q.0, f q.1)
+        go (inr x) p f = let q = subst (λ (k : Bool). Each (λ z. z.event.stamp ≤ L) (cond k (t ∷ cut O T before) (cut O T before))) x.0 p in (inr x.1, f q)
+    gap_cut L T (Skipped a m ∷ before) p = gap_cut L T before p
+
+    gap_clock : (L s : ℕ) (acts : List (Act O)) → Gap L s acts → Far L s (clock_of O acts)
+    gap_clock L s [] g = inl (omega arith)
+    gap_clock L s (Made t ∷ before) g = g.0
+    gap_clock L s (Skipped a m ∷ before) g = gap_clock L s before g
+
+    gap_posted : (L s a b n : ℕ) (acts : List (Act O)) (l : Local O) → Lone O n acts l → Gap L s acts → Each (λ m. Far L s m.stamp) (all_posted O a b acts)
+    gap_posted L s a b n [] l r g = tt
+    gap_posted L s a b n (Made t ∷ before) l r g = all-append (steps O) (λ m. Far L s m.stamp) (all_posted O a b before) (for_link O a b t.posted) (gap_posted L s a b n before r.0 r.1 g.1)
+        (each_to O (λ m. m.stamp ≡ t.event.stamp) (λ m. Far L s m.stamp) (λ m e. subst (Far L s) (sym e) g.0) (for_link O a b t.posted) (stamped O a b t.event.node t.event.stamp t.posted (marked O n r.0 t l r.2).posted))
+    gap_posted L s a b n (Skipped c m ∷ before) l r g = gap_posted L s a b n before r.0 r.1 g
+
+    came : (P : Post O → Type 0) (n : ℕ) (o : Option (Post O)) (s : ℕ) → IfSome o (λ l. (l.to ≡ n) × (l.stamp < s)) → ((a : ℕ) → Each P (at_front O o a n)) → IfSome o P
+    came P n None s e h = tt
+    came P n (Some l) s e h =
+        let x : ((l.from == l.from) && (n == l.to)) ≡ true = rw (same_numbers l.from l.from refl, same_numbers n l.to (sym e.0)) refl in
+        (subst (λ (k : Bool). Each P (cond k (l ∷ []) [])) x (h l.from)).0
+
+    next_far : (L s c : ℕ) (o : Option (Post O)) → L < s → Far L s c → IfSome o (λ l. Far L s l.stamp) → next_stamp O c o ≡ suc s → ⊥
+    next_far L s c None less (inl x) y e = omega (arith, less, x, e)
+    next_far L s c None less (inr x) y e = omega (arith, less, x, e)
+    next_far L s c (Some l) less (inl x) (inl y) e = omega (arith, less, x, y, e)
+    next_far L s c (Some l) less (inl x) (inr y) e = omega (arith, less, x, y, e)
+    next_far L s c (Some l) less (inr x) y e = omega (arith, less, x, e)
+
+    gap_step : (L s n : ℕ) (acts : List (Act O)) (l : Local O) → L < s → Lone O n acts l → Gap L s acts → ((a : ℕ) → Each (λ m. Far L s m.stamp) (all_taken O a n acts)) → Gap L (suc s) acts
+    gap_step L s n [] l less r g taken = tt
+    gap_step L s n (Made t ∷ before) l less r g taken = (
+      go g.0 (leb_tells t.event.stamp (suc s)),
+      gap_step L s n before r.0 less r.1 g.1 (λ a. each_left O (λ m. Far L s m.stamp) (all_taken O a n before) (at_front O t.taken a n) (taken a)),
+    )
+      where
+        letter : IfSome t.taken (λ m. Far L s m.stamp)
+        letter = came (λ m. Far L s m.stamp) n t.taken t.event.stamp (subst (λ (k : ℕ). IfSome t.taken (λ m. (m.to ≡ k) × (m.stamp < t.event.stamp))) r.2.node (marked O n r.0 t l r.2).taken) (λ a. each_end O (λ m. Far L s m.stamp) (all_taken O a n before) (at_front O t.taken a n) (taken a))
+
+        go : Far L s t.event.stamp → ((leb t.event.stamp (suc s) ≡ true) × (t.event.stamp ≤ suc s)) ⊎ ((leb t.event.stamp (suc s) ≡ false) × (suc s < t.event.stamp)) → Far L (suc s) t.event.stamp
+        go (inl x) y = inl x
+        go (inr x) (inr y) = inr y.1
+        go (inr x) (inl y) = absurd (next_far L s r.0.clock t.taken less (subst (Far L s) (sym (clock_is O n before r.0 r.1)) (gap_clock L s before g.1)) letter (sym r.3.stamp_is ∙ omega (arith, x, y.1)))
+    gap_step L s n (Skipped a m ∷ before) l less r g taken = gap_step L s n before r.0 less r.1 g (λ c. each_left O (λ z. Far L s z.stamp) (all_taken O c n before) (cond (c == a) (m ∷ []) []) (taken c))
+
+    none_at : (L T n : ℕ) (acts : List (Act O)) (l : Local O) → L < T → ((s : ℕ) → T ≤ s → Gap L s acts) → ((s : ℕ) → T ≤ s → (a : ℕ) → Each (λ m. Far L s m.stamp) (all_taken O a n acts)) → AllLate O T acts → NoneSkipped O acts
+    none_at L T n [] l far gap taken late = tt
+    none_at L T n (Made t ∷ before) l far gap taken late = none_at L T n before l far (λ s k. (gap s k).1) (λ s k a. each_left O (λ m. Far L s m.stamp) (all_taken O a n before) (at_front O t.taken a n) (taken s k a)) late
+    none_at L T n (Skipped a m ∷ before) l far gap taken late = go late.0 (gap_clock L (T + clock_of O before) before (gap (T + clock_of O before) (omega arith))) (this (T + m.stamp) (omega arith))
+      where
+        this : (s : ℕ) → T ≤ s → Far L s m.stamp
+        this s k = (each_end O (λ z. Far L s z.stamp) (all_taken O a n before) (m ∷ []) (subst (λ (x : Bool). Each (λ z. Far L s z.stamp) (all_taken O a n before ++ cond x (m ∷ []) [])) (same_numbers a a refl) (taken s k a))).0
+
+        go : (T ≤ m.stamp) ⊎ (T < clock_of O before) → Far L (T + clock_of O before) (clock_of O before) → Far L (T + m.stamp) m.stamp → ⊥
+        go (inl x) c (inl y) = omega (arith, x, y, far)
+        go (inl x) c (inr y) = omega (arith, y, x, far)
+        go (inr x) (inl y) z = omega (arith, x, y, far)
+        go (inr x) (inr y) z = omega (arith, y, x, far)
+
+    module _ (acts : ℕ → List (Act O)) (w : World O) (es : List Noted) (did : DidAll O acts w) (sorted : Sorted es) (own_is : (n : ℕ) → own_events n es ≡ journal O (acts n)) (few : length es < hops_end) where
+      run_to : (T : ℕ) → ((n : ℕ) → AllLate O T (acts n)) → (v : World O) × Woven (steps O) (λ n. cut O T (acts n)) (low T es) (world_of O v)
+      run_to T late =
           let d = cut_did O T acts w did late in
           let turns : ℕ → List (Turn O) = λ n. cut O T (acts n) in
-          let own_low : (n : ℕ) → own_events n (low T es) ≡ shown O (turns n) = λ n. low_own T n es ∙ (ap (low T) (own n) ∙ low_journal T (acts n)) in
+          let own_low : (n : ℕ) → own_events n (low T es) ≡ shown O (turns n) = λ n. low_own T n es ∙ (ap (low T) (own_is n) ∙ low_journal T (acts n)) in
           let holds = did_holds O S turns d.0 (low T es) d.1 (low_sorted T es sorted) own_low in
-          let x = did_woven O turns d.0 (low T es) d.1 (low_sorted T es sorted) (λ n. sym (own_low n ∙ shown_plain (turns n) (holds.2 n))) in
-          let long : length x.all ≡ length (low T es) = sym (events_length x.all) ∙ ap length x.events_are in
-          let less : length x.all < hops_end = let y = low_length T es in omega (arith, long, y, few) in
+          (d.0, did_woven O turns d.0 (low T es) d.1 (low_sorted T es sorted) (λ n. sym (own_low n ∙ shown_plain (turns n) (holds.2 n))))
+
+      short : (T : ℕ) (late : (n : ℕ) → AllLate O T (acts n)) → length (run_to T late).1.all ≤ length es
+      short T late = let x = (run_to T late).1 in let long : length x.all ≡ length (low T es) = sym (events_length x.all) ∙ ap length x.events_are in let y = low_length T es in omega (arith, long, y)
+
+      all_sent : (T : ℕ) → ((n : ℕ) → AllLate O T (acts n)) → (a b : ℕ) → Each (Sent T b) (all_taken O a b (acts b))
+      all_sent T late a b =
+          let d = run_to T late in
+          let x = d.1 in
+          let less : length x.all < hops_end = let y = short T late in omega (arith, y, few) in
           let plain : Each (Plain b) (posted_on O a b x.all) = run_plain a b x.all _ (reached_so O x.all (world_of O d.0) x.reached) less in
-          let here : Each (Plain b) (posted_on O a b (turns a)) = subst (Each (Plain b)) (sym (posted_own (steps O) a b x.all x.marked) ∙ ap (posted_on O a b) (x.own_are a)) plain in
+          let here : Each (Plain b) (posted_on O a b (cut O T (acts a))) = subst (Each (Plain b)) (sym (posted_own (steps O) a b x.all x.marked) ∙ ap (posted_on O a b) (x.own_are a)) plain in
           let p = cut_posts O T a b a (acts a) (w.nodes a) (did.nodes a) in
-          let soon : Each (λ l. l.stamp ≤ T → Plain b l) (all_posted O a b (acts a)) = subst (Each (λ l. l.stamp ≤ T → Plain b l)) (sym p.is)
-          (all-append (steps O) (λ l. l.stamp ≤ T → Plain b l) (posted_on O a b (turns a)) p.rest (each_to O (Plain b) (λ l. l.stamp ≤ T → Plain b l) (λ l k less. k) (posted_on O a b (turns a)) here) (each_to O (λ l. l.stamp < suc T → ⊥) (λ l. l.stamp ≤ T → Plain b l) (λ l k less. absurd (k (omega (arith, less)))) p.rest p.late)) in
-          let top = below_end a (acts a) (w.nodes a) (did.nodes a) in
-          let ends : Each (λ l. l.stamp < stamp_end) (all_posted O a b (acts a)) = each_to O (λ l. l.stamp ≤ clock_of O (acts a)) (λ l. l.stamp < stamp_end) (λ l k. omega (arith, k, top)) (all_posted O a b (acts a)) (risen O a b a (acts a) (w.nodes a) (did.nodes a)).low in
-          each_left O (Sent T b) (all_taken O a b (acts b)) (w.links a b) (subst (Each (Sent T b)) (sym (did.links a b)) (each_pair (λ l. l.stamp < stamp_end) (λ l. l.stamp ≤ T → Plain b l) (all_posted O a b (acts a)) ends soon))
+          let soon : Each (Sent T b) (all_posted O a b (acts a)) = subst (Each (Sent T b)) (sym p.is)
+          (all-append (steps O) (Sent T b) (posted_on O a b (cut O T (acts a))) p.rest (each_to O (Plain b) (Sent T b) (λ l k less. k) (posted_on O a b (cut O T (acts a))) here) (each_to O (λ l. l.stamp < suc T → ⊥) (Sent T b) (λ l k less. absurd (k (omega (arith, less)))) p.rest p.late)) in
+          each_left O (Sent T b) (all_taken O a b (acts b)) (w.links a b) (subst (Each (Sent T b)) (sym (did.links a b)) soon)
 
       late_first : (list : List (Act O)) → AllLate O 0 list
       late_first [] = tt
       late_first (Made t ∷ before) = late_first before
       late_first (Skipped a m ∷ before) = (inl (omega arith), late_first before)
 
-      all_late : (T n : ℕ) → AllLate O T (acts n)
-      all_late zero n = late_first (acts n)
-      all_late (suc T) n = later T n (acts n) (w.nodes n) (did.nodes n) (λ a. all_sent T (all_late T) a n) (all_late T n)
+      all_late : (T : ℕ) → T < stamp_end → (n : ℕ) → AllLate O T (acts n)
+      all_late zero less n = late_first (acts n)
+      all_late (suc T) less n = later T n (acts n) (w.nodes n) less (did.nodes n) (λ a. all_sent T (all_late T (omega (arith, less))) a n) (all_late T (omega (arith, less)) n)
+
+      first_gap : (T : ℕ) → ((n : ℕ) → AllLate O T (acts n)) → (n : ℕ) → Gap (length es) T (acts n)
+      first_gap T late n =
+          let x = (run_to T late).1 in
+          let y = short T late in
+          let tops : Each (λ t. t.event.stamp ≤ length x.all) x.all = stamps_few O x.all x.carried x.marked (λ k. subst (Exact O) (sym (x.own_are k)) (cut_exact T k (acts k) (w.nodes k) (did.nodes k)).0) in
+          gap_cut (length es) T (acts n) (low_more O (length x.all) (length es) (cut O T (acts n)) y (subst (Each (λ t. t.event.stamp ≤ length x.all)) (x.own_are n) (each_own (λ t. t.event.stamp ≤ length x.all) n x.all tops)))
+
+      far_taken : (s : ℕ) → ((n : ℕ) → Gap (length es) s (acts n)) → (n a : ℕ) → Each (λ m. Far (length es) s m.stamp) (all_taken O a n (acts n))
+      far_taken s g n a = each_left O (λ m. Far (length es) s m.stamp) (all_taken O a n (acts n)) (w.links a n) (subst (Each (λ m. Far (length es) s m.stamp)) (sym (did.links a n)) (gap_posted (length es) s a n a (acts a) (w.nodes a) (did.nodes a) (g a)))
+
+      gaps : (T : ℕ) → length es < T → ((n : ℕ) → Gap (length es) T (acts n)) → (k n : ℕ) → Gap (length es) (k + T) (acts n)
+      gaps T less g zero n = subst (λ (s : ℕ). Gap (length es) s (acts n)) (omega arith) (g n)
+      gaps T less g (suc k) n = subst (λ (s : ℕ). Gap (length es) s (acts n)) (omega arith) (gap_step (length es) (k + T) n (acts n) (w.nodes n) (omega (arith, less)) (did.nodes n) (gaps T less g k n) (far_taken (k + T) (gaps T less g k) n))
+
+      gap_from : (T : ℕ) → length es < T → ((n : ℕ) → Gap (length es) T (acts n)) → (s : ℕ) → T ≤ s → (n : ℕ) → Gap (length es) s (acts n)
+      gap_from T less g s le n = let e : (s - T) + T ≡ s = omega (arith, le) in subst (λ (x : ℕ). Gap (length es) x (acts n)) e (gaps T less g (s - T) n)
 
       pub none_skipped : (n : ℕ) → NoneSkipped O (acts n)
-      none_skipped n = none_at stamp_end n (acts n) (w.nodes n) (did.nodes n) (omega arith) (λ a. all_sent stamp_end (all_late stamp_end) a n) (all_late stamp_end n)
+      none_skipped n =
+          let late = all_late hops_end (omega arith) in
+          let g = gap_from hops_end few (first_gap hops_end late) in
+          none_at (length es) hops_end n (acts n) (w.nodes n) few (λ s le. g s le n) (λ s le a. far_taken s (g s le) n a) (late n)

@@ -5,7 +5,7 @@ use Rattle.protocol.specs.Deeds.{Noted}
 use Rattle.protocol.specs.Notes.{Post, Turn, Local}
 use Rattle.protocol.specs.Does.{Makes}
 use Rattle.protocol.specs.Cluster.{World, Fresh, for_link, at_front}
-use Rattle.protocol.specs.Odd.{SkipsOdd, stamp_end}
+use Rattle.protocol.specs.Odd.{SkipsOdd, Timely}
 use Rattle.run_laws.specs.Carried.{recorded}
 
 module _ (O : Ops) where
@@ -14,10 +14,10 @@ module _ (O : Ops) where
     Made : Turn O → Act
     Skipped : ℕ → Post O → Act
 
-  -- from a fresh node these acts, the newest first, lead to this; no stamp of a turn is at its end
+  -- from a fresh node these acts, the newest first, lead to this; each turn keeps the rule of stamps exactly
   abbrev pub Lone : ℕ → List Act → Local O → Type 0
   Lone n [] new = Fresh O n new
-  Lone n (Made t ∷ before) new = (old : Local O) × Lone n before old × Makes O n old t new × (t.event.stamp < stamp_end)
+  Lone n (Made t ∷ before) new = (old : Local O) × Lone n before old × Makes O n old t new × Timely O n old t
   Lone n (Skipped from l ∷ before) new = (old : Local O) × Lone n before old × (n < O.nodes) × SkipsOdd O n old l new
 
   abbrev pub all_posted : ℕ → ℕ → List Act → List (Post O)

@@ -49,9 +49,9 @@ pub fn no_odd_letters()
     ensures { (h : List (Turn mover)) (w : World mover) (run : Reached mover h w) (a n : ℕ) (l : Post mover) (rest : List (Post mover)) → Timed mover h w run → length h < hops_end → n < mover.nodes → w.links a n ≡ l ∷ rest → IsOdd mover n (w.nodes n) l → ⊥ }
 {}
 
-/// Nor where only each node's own order is known: nodes make turns and skip odd letters, each by itself, and whatever each link lists. Where no stamp of a turn
-/// is at its end, and the journals, put in order by stamp and node, have fewer than 2^32 - 1 events, no node skipped a letter. `acts` are what each node did, the
-/// newest first, `w` how that leaves the nodes and links, and `es` the list.
+/// Nor where only each node's own order is known: nodes make turns, each stamp exactly one more than the clock and the letter's stamp, and skip odd letters, each by
+/// itself, and whatever each link lists. Where the journals, put in order by stamp and node, have fewer than 2^32 - 1 events, no node skipped a letter. `acts` are
+/// what each node did, the newest first, `w` how that leaves the nodes and links, and `es` the list.
 pub fn none_skipped()
     ensures { (acts : ℕ → List (Act mover)) (w : World mover) (es : List Event) → DidAll mover acts w → Sorted (all_noted mover.script es) → ((n : ℕ) → own_events n (all_noted mover.script es) ≡ journal mover (acts n)) → length (all_noted mover.script es) < hops_end → (n : ℕ) → NoneSkipped mover (acts n) }
 {}
