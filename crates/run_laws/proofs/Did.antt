@@ -59,7 +59,7 @@ usual_own n (e ∷ es) u = go (e.node == n) (usual_own n es u.1)
     go true r = (u.0, r)
     go false r = r
 
-line_usual : (e : Noted) (what : Deed) → IsUsual what → recorded e what ≡ e ∷ []
+pub line_usual : (e : Noted) (what : Deed) → IsUsual what → recorded e what ≡ e ∷ []
 line_usual e (Run line i p) u = refl
 line_usual e (Kill line p g poked) u = refl
 line_usual e (Bid line p to) u = refl

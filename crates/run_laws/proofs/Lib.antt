@@ -34,6 +34,9 @@ pub mod Merge
 pub mod Weaving
 pub mod Weave
 pub mod Did
+pub mod Cutting
+pub mod Gapless
+pub mod Skipping
 pub mod Sleeps
 pub mod Resting
 pub mod OpenLines

@@ -115,7 +115,7 @@ module _ (O : Ops) where
     marked = λ n old t new m. marked n old t new m;
   }
 
-  reached_so : (h : List (Turn O)) (w : AllWorld (steps O)) → AllReached (steps O) h w → Reached O h (record { nodes = w.nodes; links = w.links })
+  pub reached_so : (h : List (Turn O)) (w : AllWorld (steps O)) → AllReached (steps O) h w → Reached O h (record { nodes = w.nodes; links = w.links })
   reached_so [] w r = record { nodes = r.nodes; links = r.links }
   reached_so (t ∷ h) w r = (
     record { nodes = r.0.nodes; links = r.0.links },

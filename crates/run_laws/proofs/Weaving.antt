@@ -11,7 +11,7 @@ le_self n = omega arith
 
 module _ (K : Steps) where
   -- what begins P and then Q, and has nothing of Q's kind, begins P
-  prefix_cut : (S : K.Letter → Type 0) (xs P Q : List K.Letter) → Each S xs → Each (λ l. S l → ⊥) Q → Begins K xs (P ++ Q) → Begins K xs P
+  pub prefix_cut : (S : K.Letter → Type 0) (xs P Q : List K.Letter) → Each S xs → Each (λ l. S l → ⊥) Q → Begins K xs (P ++ Q) → Begins K xs P
   prefix_cut S [] P Q s q b = (P, refl)
   prefix_cut S (x ∷ xs) [] [] s q b = absurd (cc (b.1))
   prefix_cut S (x ∷ xs) [] (y ∷ ys) s q b = let e : x ≡ y = cc (b.1) in absurd (q.0 (subst S e s.0))
@@ -20,7 +20,7 @@ module _ (K : Steps) where
       let r = prefix_cut S xs P Q s.1 q (b.0, cc (b.1)) in
       (r.0, cc (e, r.1))
 
-  all-append : (S : K.Letter → Type 0) (xs ys : List K.Letter) → Each S xs → Each S ys → Each S (xs ++ ys)
+  pub all-append : (S : K.Letter → Type 0) (xs ys : List K.Letter) → Each S xs → Each S ys → Each S (xs ++ ys)
   all-append S [] ys p q = q
   all-append S (x ∷ xs) ys p q = (p.0, all-append S xs ys p.1 q)
 
@@ -31,7 +31,7 @@ module _ (K : Steps) where
   front_before a b None s n m bound le = tt
   front_before a b (Some l) s n m bound le = elim ((a == (K.from l)) && (b == (K.to l))) as (λ k. Each (λ l. (K.stamp l) < bound) (cond k (l ∷ []) [])) [ true ↦ (omega (arith, m.1), tt) | false ↦ tt ]
 
-  taken_before : (a b bound : ℕ) (h : List K.Turn) → AllMarked h → Each (λ t. (K.event t).stamp ≤ bound) h → Each (λ l. (K.stamp l) < bound) (taken_on K a b h)
+  pub taken_before : (a b bound : ℕ) (h : List K.Turn) → AllMarked h → Each (λ t. (K.event t).stamp ≤ bound) h → Each (λ l. (K.stamp l) < bound) (taken_on K a b h)
   taken_before a b bound [] m le = tt
   taken_before a b bound (t ∷ h) m le = all-append (λ l. (K.stamp l) < bound) (taken_on K a b h) (at_front K (K.taken t) a b) (taken_before a b bound h m.1 le.1) (front_before a b (K.taken t) (K.event t).stamp (K.event t).node m.0.taken bound le.0)
 
@@ -121,7 +121,7 @@ module _ (K : Steps) where
       go false true e = refl
       go false false e = refl
 
-  posted_own : (a b : ℕ) (h : List K.Turn) → AllMarked h → posted_on K a b (own K a h) ≡ posted_on K a b h
+  pub posted_own : (a b : ℕ) (h : List K.Turn) → AllMarked h → posted_on K a b (own K a h) ≡ posted_on K a b h
   posted_own a b [] m = refl
   posted_own a b (t ∷ h) m = go ((K.event t).node == a) refl (posted_own a b h m.1)
     where
@@ -202,7 +202,7 @@ module _ (K : Steps) where
       rest n true k = k.1
       rest n false k = k
 
-  each_part : (P Q : K.Turn → Type 0) (h : List K.Turn) → ((t : K.Turn) → P t → Q t) → Each P h → Each Q h
+  pub each_part : (P Q : K.Turn → Type 0) (h : List K.Turn) → ((t : K.Turn) → P t → Q t) → Each P h → Each Q h
   each_part P Q [] f k = tt
   each_part P Q (t ∷ h) f k = (f t k.0, each_part P Q h f k.1)
 

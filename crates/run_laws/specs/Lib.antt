@@ -25,6 +25,7 @@ pub mod Histories
 pub mod Whole
 pub mod Weaving
 pub mod Carried
+pub mod Skipping
 pub mod Due
 pub mod Ends
 pub mod Owned
