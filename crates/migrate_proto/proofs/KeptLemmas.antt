@@ -9,6 +9,7 @@ use Rattle.std.specs.FinMap as map
 use Rattle.migrate_proto.specs.declared.reserve.Decision.TheVariants.{Allow, Deny}
 use Rattle.migrate_proto.specs.Reservations.{Apart, IsKept, reserved_pages, decision}
 use Rattle.migrate_proto.proofs.MapLemmas.{Entries, Map, found, pages_of, found_there, apart_removed, apart_pushed, got, inserted, landed, not_landed, counted, summed, at_place, placed}
+use Rattle.call_table.specs.declared.limit.TheConstants.{PROCESSES}
 
 pub denied : (need free f : ℕ) → free ≡ f → free < need → Deny need free ≡ decision need f
 denied need free f e less = ap (λ b. cond b (Deny need free) Allow) (sym (lt-ltb free need less)) ∙ ap (decision need) e
@@ -34,7 +35,7 @@ module _ (es : Entries) (m : Map) (cap total : ℕ) (is : map.from_entries es �
   placed_is pid o e = placed es pid o k.apart e ∙ ap is_some (sym (got_is pid))
 
   -- a reservation more
-  module _ (pid need : ℕ) (fresh : IsNone (map.get m pid)) (room : map.len m < 64) (new : Entries) (e : new ≡ es ++ (pid, need) ∷ []) where
+  module _ (pid need : ℕ) (fresh : IsNone (map.get m pid)) (room : map.len m < PROCESSES) (new : Entries) (e : new ≡ es ++ (pid, need) ∷ []) where
     none : found pid es ≡ None
     none = sym (got_is pid) ∙ none_of (map.get m pid) fresh
 

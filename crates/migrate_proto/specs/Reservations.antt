@@ -3,6 +3,7 @@ use Rattle.std.specs.Prelude.{ℕ, ◌≡◌, ◌≤◌, nat_lt, List, [], ◌�
 use Rattle.std.specs.List.{sum_by}
 use Rattle.std.specs.Ordering.{nat_cmp}
 use Rattle.std.specs.FinMap as map
+use Rattle.call_table.specs.declared.limit.TheConstants.{PROCESSES}
 use Rattle.migrate_proto.specs.declared.reserve.Decision.{Decision}
 use Rattle.migrate_proto.specs.declared.reserve.Decision.TheVariants.{Allow, Deny}
 
@@ -22,6 +23,6 @@ Apart (e ∷ es) = (map.find nat_cmp e.0 es ≡ None) × Apart es
 -- how the map is stored: a list of pid and pages, with its room and the sum of its pages
 pub record IsKept (entries : List (ℕ × ℕ)) (capacity total : ℕ) : Type 0 where
   pub apart : Apart entries
-  pub few : length entries ≤ 64
-  pub room : 64 ≤ capacity
+  pub few : length entries ≤ PROCESSES
+  pub room : PROCESSES ≤ capacity
   pub pages : total ≡ sum_by (λ e. e.1) entries

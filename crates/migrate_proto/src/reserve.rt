@@ -1,7 +1,8 @@
 // The pages that a node keeps for processes that are to land.
-ghost use Rattle.std.specs.Prelude.{◌≡◌, ◌≢◌, ◌+◌, ◌-◌, ◌<◌, ◌≤◌, ◌↔◌, ◌==◌, IsTrue, IsSome, IsNone, IfOk, position, unwrap_or};
+ghost use Rattle.std.specs.Prelude.{◌≡◌, ◌≢◌, ◌+◌, ◌-◌, ◌<◌, ◌≤◌, ◌↔◌, ◌==◌, IsTrue, IsSome, IsNone, IfOk, position, unwrap_or, false};
 ghost use Rattle.std.specs.Ordering.{nat_cmp};
 ghost use Rattle.std.specs.FinMap as map;
+ghost use Rattle.call_table.specs.declared.limit.TheConstants.{PROCESSES};
 ghost use Rattle.migrate_proto.specs.Reservations.{decision, reserved_pages};
 
 use call_table::NoMemory;
@@ -72,7 +73,7 @@ impl Reserve {
     /// Reserves `need` pages for a process where so many are free at a node of `cap` pages, of which its processes hold `held`. Else nothing changes. It takes no memory.
     pub fn allow_or_deny(&mut self, pid: u32, need: u32, cap: u32, held: u32) -> Decision
         requires fresh { IsNone (map.get self.old pid) }
-        requires room { map.len self.old < 64 }
+        requires room { map.len self.old < PROCESSES }
         ensures answer { result ≡ decision need (cap - held - reserved_pages self.old) }
         ensures allowed { result ≡ Decision.Allow → (self.new ≡ map.insert self.old pid need) × (reserved_pages self.new ≡ reserved_pages self.old + need) }
         ensures denied { result ≢ Decision.Allow → self.new ≡ self.old }
@@ -90,6 +91,7 @@ impl Reserve {
     pub fn land(&mut self, pid: u32) -> bool
         ensures had { IsTrue result ↔ IsSome (map.get self.old pid) }
         ensures gone { self.new ≡ map.remove self.old pid }
+        ensures none { result ≡ false → self.new ≡ self.old }
         ensures pages { reserved_pages self.new + unwrap_or (map.get self.old pid) 0 ≡ reserved_pages self.old }
     {
         match place_of(&self.entries, pid) {
@@ -119,7 +121,7 @@ impl Reserve {
     /// The number of reservations, at most 64.
     pub fn len(&self) -> u32
         ensures count { result ≡ map.len self.now }
-        ensures most { result ≤ 64 }
+        ensures most { result ≤ PROCESSES }
     {
         self.entries.len() as u32
     }

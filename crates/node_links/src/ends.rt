@@ -19,14 +19,15 @@ pub struct In {
 }
 
 impl Out {
-    ghost use Rattle.std.specs.Prelude.{◌≡◌, ◌<◌, ◌↔◌, [], ◌∷◌, ◌++◌, IfSome, IfNone, IsNone, IsTrue};
+    ghost use Rattle.std.specs.Prelude.{◌≡◌, ◌<◌, ◌≤◌, ◌+◌, ◌↔◌, [], ◌∷◌, ◌++◌, IfSome, IfNone, IsNone, IsTrue};
     ghost use Rattle.node_links.specs.Links.{letters_put, letters_taken, known_letters, free_slots, IsLink, SameOut, SameIn};
 
-    /// Puts a letter on the link, or gives it back where this end knows of no free slot afterwards. It takes no memory.
+    /// Puts a letter on the link, or gives it back where this end knows of no free slot afterwards. A letter takes one slot. It takes no memory.
     pub fn put(&mut self, letter: Letter) -> Option<Letter>
         ensures link { SameOut self.old self.new }
         ensures goes { 0 < free_slots self.old → IsNone result }
         ensures done { IfNone result (letters_put self.new ≡ letters_put self.old ++ letter ∷ []) }
+        ensures slot { IfNone result (free_slots self.old ≤ free_slots self.new + 1) }
         ensures full { IfSome result (λ back. (back ≡ letter) × (letters_put self.new ≡ letters_put self.old) × (free_slots self.new ≡ 0)) }
     {
         match self.ring.push(letter) {
@@ -51,12 +52,14 @@ impl Out {
 
 impl In {
     ghost use Rattle.std.specs.Prelude.{◌≡◌, ◌+◌, ◌≤◌, [], ◌∷◌, ◌++◌, length, IfSome, IfNone};
+    ghost use mathlib.Core.List.{IsPrefix};
     ghost use Rattle.node_links.specs.Links.{letters_taken, known_letters, SameIn};
 
-    /// Takes the next letter off the link. None only where this end knew of no letter there. It takes no memory.
+    /// Takes the next letter off the link, the first that this end knows of. None only where it knew of no letter there. It takes no memory.
     pub fn take(&mut self) -> Option<Letter>
         ensures link { SameIn self.old self.new }
         ensures some { IfSome result (λ letter. letters_taken self.new ≡ letters_taken self.old ++ letter ∷ []) }
+        ensures next { IfSome result (λ letter. IsPrefix (known_letters self.old) (letter ∷ known_letters self.new)) }
         ensures known { length (known_letters self.old) ≤ length (known_letters self.new) + 1 }
         ensures none { IfNone result ((letters_taken self.new ≡ letters_taken self.old) × (length (known_letters self.old) ≡ 0)) }
     {

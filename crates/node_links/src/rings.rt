@@ -1,5 +1,6 @@
 // Links, and those between all nodes.
 ghost use Rattle.std.specs.Prelude.{◌≡◌, ◌+◌, ◌<◌, ◌≤◌, [], IfOk, OnOk};
+ghost use Rattle.call_table.specs.declared.limit.TheConstants.{NODES};
 ghost use Rattle.node_links.specs.Links.{letters_put, letters_taken, known_letters, free_slots, IsLink};
 ghost use Rattle.node_links.specs.Sides.{IsFresh, InPairs, EachIs, IsGrown};
 ghost use Rattle.node_links.specs.Rings.{ring_pair, IsNew};
@@ -85,7 +86,7 @@ fn add_node(alloc: Global, sides: &mut Vec<Side<RingCarrier>>, node: u8) -> Resu
 /// Carriers in pairs for so many nodes, over rings of 64 letters, on which nothing lies and by which no letter was taken.
 pub fn ring_carriers(alloc: Global, nodes: u8) -> Result<Carriers<RingCarrier>, NoMemory>
     requires least { 1 ≤ nodes }
-    requires most { nodes ≤ 8 }
+    requires most { nodes ≤ NODES }
     ensures pairs { IfOk result (InPairs ⟦<RingCarrier as Carrier>⟧.pair nodes) }
     ensures fresh { IfOk result (EachIs (IsFresh ⟦<RingCarrier as Carrier>⟧.puts ⟦<RingCarrier as Carrier>⟧.gives ⟦<RingCarrier as Carrier>⟧.total)) }
     ensures room { IfOk result (EachIs IsNew) }

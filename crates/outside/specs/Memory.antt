@@ -9,6 +9,7 @@ use Rattle.outside.specs.declared.traits.LoadFault.{LoadFault}
 use Rattle.outside.specs.declared.traits.LoadFault.TheVariants as fault
 use Rattle.outside.specs.Outside.{NamedFile, file_named}
 use Rattle.outside.specs.Fails.{fails_next, after_call, after_fault}
+use Rattle.call_table.specs.declared.limit.TheConstants.{IMAGE_BYTES}
 
 -- ---- a source: the bytes that are left
 
@@ -53,12 +54,12 @@ pub record ImagesState : Type 0 where
 
 -- the bytes of a file that can be loaded
 abbrev pub IsLoadable : Option (List ℕ) → List ℕ → Type 0
-IsLoadable file bytes = (file ≡ Some bytes) × (length bytes ≤ 16777216)
+IsLoadable file bytes = (file ≡ Some bytes) × (length bytes ≤ IMAGE_BYTES)
 
 -- why a file is not loaded by a call that is not listed
 abbrev pub IsMissed : Option (List ℕ) → LoadFault → Type 0
 IsMissed file fault.Absent = file ≡ None
-IsMissed file fault.TooLong = (bytes : List ℕ) × (file ≡ Some bytes) × (16777216 < length bytes)
+IsMissed file fault.TooLong = (bytes : List ℕ) × (file ≡ Some bytes) × (IMAGE_BYTES < length bytes)
 IsMissed file fault.NoMemory = (bytes : List ℕ) × IsLoadable file bytes
 IsMissed file fault.Failed = ⊥
 

@@ -6,6 +6,7 @@ use Rattle.call_table.specs.declared.files.Named.{Named}
 use Rattle.outside.specs.declared.traits.Failed.{Failed}
 use Rattle.outside.specs.declared.traits.LoadFault.{LoadFault}
 use Rattle.outside.specs.declared.traits.LoadFault.TheVariants as fault
+use Rattle.call_table.specs.declared.limit.TheConstants.{IMAGE_BYTES}
 
 -- a count rose, or stands at its end
 abbrev pub Rose : ℕ → ℕ → Type 0
@@ -42,12 +43,12 @@ has_slash name = list_any (λ byte. byte == 47) name
 
 abbrev pub Misses : Option (List ℕ) → LoadFault → Type 0
 Misses file fault.Absent = file ≡ None
-Misses file fault.TooLong = (bytes : List ℕ) × (file ≡ Some bytes) × (16777216 < length bytes)
+Misses file fault.TooLong = (bytes : List ℕ) × (file ≡ Some bytes) × (IMAGE_BYTES < length bytes)
 Misses file fault.Failed = Unit {0}
 Misses file fault.NoMemory = Unit {0}
 
 abbrev pub LoadedFrom : Option (List ℕ) → Result (List ℕ) LoadFault → Type 0
-LoadedFrom file (Ok bytes) = (file ≡ Some bytes) × (length bytes ≤ 16777216)
+LoadedFrom file (Ok bytes) = (file ≡ Some bytes) × (length bytes ≤ IMAGE_BYTES)
 LoadedFrom file (Err e) = Misses file e
 
 -- files that are not told are never absent or too long

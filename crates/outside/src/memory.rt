@@ -7,12 +7,12 @@ ghost use Rattle.outside.specs.Memory.{Reads, Writes, Loads, LoadedOr};
 
 use crate::plan::{Calls, Plan, fails, plan_of};
 use crate::traits::{Failed, Images, LoadFault, Sink, Source};
+use call_table::limit::IMAGE_BYTES;
 use call_table::{Bytes, Named, Names, NoMemory};
 use std::alloc::Global;
 use std::marker::Model;
 
 /// Files longer than this are refused.
-const FILE_BYTES: usize = 16_777_216;
 
 // ---- a source
 
@@ -204,7 +204,7 @@ fn copy_of(alloc: Global, files: &Names, name: &[u8]) -> Result<Bytes, LoadFault
     let Some(bytes) = find(files.as_slice(), name) else {
         return Err(LoadFault::Absent);
     };
-    if bytes.as_slice().len() > FILE_BYTES {
+    if bytes.as_slice().len() > IMAGE_BYTES as usize {
         return Err(LoadFault::TooLong);
     }
     match bytes.copy(alloc) {

@@ -1,23 +1,22 @@
 // The real outside: it tells nothing of its bytes, and counts its faults.
-ghost use Rattle.std.specs.Prelude.{◌≡◌, ◌≤◌, None, Err, true, length, take, IfOk, IfErr, IfSome, OnOk};
+ghost use Rattle.std.specs.Prelude.{◌+◌, ◌≡◌, ◌≤◌, None, Err, true, length, take, IfOk, IfErr, IfSome, OnOk};
 ghost use Rattle.std.specs.Io.KnownBytes.{ReadConsumes, Appends};
 ghost use Rattle.outside.specs.Outside.{Takes, HasCause, Loaded, LoadCause, has_slash};
 ghost use Rattle.outside.specs.Outside.{Appends as SinkAppends};
 ghost use Rattle.outside.specs.Fails.{Counts, CountsLoad};
+ghost use Rattle.call_table.specs.declared.limit.TheConstants.{IMAGE_BYTES};
 
 use crate::plan::one_more;
 use crate::traits::{Failed, Images, LoadFault, Sink, Source};
 use call_table::Bytes;
+use call_table::limit::IMAGE_BYTES;
 use std::alloc::Global;
 use std::fs::File;
 use std::io::{self, ErrorKind, Read, Write};
 use std::rt::Files;
 
-/// Files longer than this are refused.
-const FILE_BYTES: usize = 16_777_216;
-
 /// One byte more than is loaded: enough to see that a file is too long.
-const READ_BYTES: u64 = FILE_BYTES as u64 + 1;
+const READ_BYTES: u64 = IMAGE_BYTES as u64 + 1;
 
 /// Standard input, or any other reader.
 #[derive(Drop)]
@@ -123,7 +122,7 @@ fn has_slash(name: &str) -> bool
 
 /// What a reader gives, up to one byte past the longest file that is loaded.
 fn read_front<R: Read + Drop>(alloc: Global, reader: R) -> io::Result<Vec<u8>>
-    ensures { IfOk result (λ bytes. IfSome (R.remaining reader) (λ left. bytes.items ≡ take 16777217 left)) }
+    ensures { IfOk result (λ bytes. IfSome (R.remaining reader) (λ left. bytes.items ≡ take (IMAGE_BYTES + 1) left)) }
 {
     let mut bytes = Vec::new(alloc);
     reader.take(READ_BYTES).read_to_end(&mut bytes)?;
@@ -172,11 +171,13 @@ impl<F: Files + AllocGlobal + Drop> Images for FileImages<F> {
         ensures cause { LoadCause self.old.faults self.new.faults result }
         ensures counts { CountsLoad self.old.faults self.new.faults result }
         ensures elsewhere { has_slash name.now ≡ true → result ≡ Err LoadFault.Failed }
-        ensures short { IfOk result (λ bytes. length bytes ≤ 16777216) }
+        ensures short { IfOk result (λ bytes. length bytes ≤ IMAGE_BYTES) }
     {
         if !has_slash(name) {
             match read_file(&self.files, alloc, name) {
-                Ok(bytes) if bytes.len() <= FILE_BYTES => return Ok(Bytes::from_vec(bytes)),
+                Ok(bytes) if bytes.len() <= IMAGE_BYTES as usize => return Ok(Bytes::from_vec(
+                    bytes,
+                )),
                 Err(e) if e.kind() == ErrorKind::OutOfMemory => return Err(LoadFault::NoMemory),
                 _ => {}
             }

@@ -6,11 +6,12 @@ use lib.Dec.{leb}
 use Rattle.protocol.specs.Cluster.{events}
 use Rattle.protocol.specs.Notes.{Local}
 use Rattle.protocol.specs.Cluster.{World, Goes, Reached, for_link, at_front}
-use Rattle.run_laws.specs.Carried.{IsUsual, NoneStrange, Carried, CarriedRun, posted_on, taken_on, own_events, Alone, Marked, Sorted, Did, Each, grown, recorded, shown}
+use Rattle.run_laws.specs.Carried.{steps, IsUsual, NoneStrange, Carried, CarriedRun, posted_on, taken_on, own_events, Alone, Marked, Sorted, Did, Each, grown, recorded, shown}
 use Rattle.run_laws.specs.Whole.{Holds}
 use Rattle.protocol.proofs.Talk.{same_numbers, numbers_same}
-use Rattle.run_laws.proofs.Weave.{marked, takes_elsewhere, posts_elsewhere, did_run}
-use Rattle.run_laws.proofs.Merge.{run_sorted, All_joined, join_all}
+use Rattle.run_laws.proofs.Weave.{marked, keeps, did_run}
+use Rattle.run_laws.proofs.Weaving.{takes_elsewhere, posts_elsewhere, run_sorted}
+use Rattle.run_laws.proofs.Merge.{All_joined, join_all}
 use Rattle.run_laws.proofs.Awaiting.{lies}
 use Rattle.run_laws.proofs.Whole.{laws_of_runs}
 use Rattle.run_laws.specs.ScriptLaw.{AtHome, ScriptLaw}
@@ -58,7 +59,7 @@ usual_own n (e ∷ es) u = go (e.node == n) (usual_own n es u.1)
     go true r = (u.0, r)
     go false r = r
 
-line_usual : (e : Noted) (what : Deed) → IsUsual what → recorded e what ≡ e ∷ []
+pub line_usual : (e : Noted) (what : Deed) → IsUsual what → recorded e what ≡ e ∷ []
 line_usual e (Run line i p) u = refl
 line_usual e (Kill line p g poked) u = refl
 line_usual e (Bid line p to) u = refl
@@ -104,11 +105,11 @@ module _ (O : Ops) where
 
       taken_at : (a b : ℕ) (k : Bool) → (b == t.event.node) ≡ k → (taken_on O) a b (cond k (t ∷ turns b) (turns b)) ≡ (taken_on O) a b (turns b) ++ (at_front O) t.taken a b
       taken_at a b true e = refl
-      taken_at a b false e = sym (ap (λ (x : List (Post O)). (taken_on O) a b (turns b) ++ x) ((takes_elsewhere O) a b t.event.node t.event.stamp t.taken marks.taken (apart b e)) ∙ append-nil ((taken_on O) a b (turns b)))
+      taken_at a b false e = sym (ap (λ (x : List (Post O)). (taken_on O) a b (turns b) ++ x) (takes_elsewhere (steps O) a b t.event.node t.event.stamp t.taken marks.taken (apart b e)) ∙ append-nil ((taken_on O) a b (turns b)))
 
       posted_at : (a b : ℕ) (k : Bool) → (a == t.event.node) ≡ k → (posted_on O) a b (cond k (t ∷ turns a) (turns a)) ≡ (posted_on O) a b (turns a) ++ (for_link O) a b t.posted
       posted_at a b true e = refl
-      posted_at a b false e = sym (ap (λ (x : List (Post O)). (posted_on O) a b (turns a) ++ x) ((posts_elsewhere O) a b t.event.node t.event.stamp t.posted marks.posted (apart a e)) ∙ append-nil ((posted_on O) a b (turns a)))
+      posted_at a b false e = sym (ap (λ (x : List (Post O)). (posted_on O) a b (turns a) ++ x) (posts_elsewhere (steps O) a b t.event.node t.event.stamp t.posted marks.posted (apart a e)) ∙ append-nil ((posted_on O) a b (turns a)))
 
       link_at : (a b : ℕ) (j k : Bool) → (b == t.event.node) ≡ j → (a == t.event.node) ≡ k → (taken_on O) a b (cond j (t ∷ turns b) (turns b)) ++ v.links a b ≡ (posted_on O) a b (cond k (t ∷ turns a) (turns a))
       link_at a b j k ej ek =
@@ -124,7 +125,7 @@ module _ (O : Ops) where
   shown_usual [] u = refl
   shown_usual (t ∷ h) u = ap (λ (x : List Noted). x ++ (shown O) h) (line_usual t.event t.event.what u.0) ∙ ap (λ (x : List Noted). t.event ∷ x) (shown_usual h u.1)
 
-  own_joined : (N : ℕ) (turns : ℕ → List (Turn O)) (all : (All_joined O) N (λ n. (events O) (turns n))) → ((n : ℕ) → N ≤ n → turns n ≡ []) → (n : ℕ) → (events O) (turns n) ≡ own_events n all.list
+  own_joined : (N : ℕ) (turns : ℕ → List (Turn O)) (all : All_joined N (λ n. (events O) (turns n))) → ((n : ℕ) → N ≤ n → turns n ≡ []) → (n : ℕ) → (events O) (turns n) ≡ own_events n all.list
   own_joined N turns all few n = go (leb_tells N n)
     where
       go : ((leb N n ≡ true) × (N ≤ n)) ⊎ ((leb N n ≡ false) × (n < N)) → (events O) (turns n) ≡ own_events n all.list
@@ -169,7 +170,7 @@ module _ (O : Ops) where
       let N : ℕ = O.nodes in
       let few : (n : ℕ) → N ≤ n → turns n ≡ [] = beyond S turns w did in
       let each : ℕ → List Noted = λ n. events O (turns n) in
-      let all : All_joined O N each = join_all O N each (λ n. (run_sorted O n (turns n) (w.nodes n) (did.nodes n)).0) (λ n. (run_sorted O n (turns n) (w.nodes n) (did.nodes n)).1) in
+      let all : All_joined N each = join_all N each (λ n. (run_sorted (steps O) (keeps O) n (turns n) (w.nodes n) (did.nodes n)).0) (λ n. (run_sorted (steps O) (keeps O) n (turns n) (w.nodes n) (did.nodes n)).1) in
       let own_all : (n : ℕ) → events O (turns n) ≡ own_events n all.list = λ n. own_joined N turns all few n in
       let run = did_run O turns w all.list did all.sorted own_all in
       let holds = laws_of_runs O S run.turns w run.reached in

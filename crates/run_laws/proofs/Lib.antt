@@ -29,11 +29,14 @@ pub mod Again
 pub mod SmallMachine
 pub mod Stories
 pub mod FirstTurn
-pub mod Carried
 pub mod Stamps
 pub mod Merge
+pub mod Weaving
 pub mod Weave
 pub mod Did
+pub mod Cutting
+pub mod Gapless
+pub mod Skipping
 pub mod Sleeps
 pub mod Resting
 pub mod OpenLines

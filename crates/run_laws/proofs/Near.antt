@@ -18,7 +18,9 @@ use Rattle.protocol.proofs.Stand.{EachBound, Stands, Path, names_at}
 use Rattle.run_laws.proofs.Sleeps.{KeptFor, Sleeps, Since, path_sleeps}
 use Rattle.run_laws.proofs.Making.{beyond}
 use Rattle.run_laws.proofs.HalfTargets.{half_near, choice_near}
-use Rattle.run_laws.proofs.Weave.{marked, posts_elsewhere}
+use Rattle.run_laws.proofs.Weave.{marked}
+use Rattle.run_laws.proofs.Weaving.{posts_elsewhere}
+use Rattle.run_laws.specs.Carried.{steps}
 
 module _ (O : Ops) (S : Sound O) (some : 1 ≤ O.nodes) where
   abbrev pub AllNear : List (Post O) → Type 0
@@ -215,7 +217,7 @@ module _ (O : Ops) (S : Sound O) (some : 1 ≤ O.nodes) where
   none_from : (w : World O) (t : Turn O) (v : World O) → Goes O w t v → (a b : ℕ) → O.nodes ≤ a → w.links a b ≡ [] → v.links a b ≡ []
   none_from w t v goes a b most was =
       let marks = marked O t.event.node (w.nodes t.event.node) t (v.nodes t.event.node) goes.makes in
-      let off : for_link O a b t.posted ≡ [] = posts_elsewhere O a b t.event.node t.event.stamp t.posted marks.posted (λ e. (let z = goes.makes.below in omega (arith, z, e, most))) in
+      let off : for_link O a b t.posted ≡ [] = posts_elsewhere (steps O) a b t.event.node t.event.stamp t.posted marks.posted (λ e. (let z = goes.makes.below in omega (arith, z, e, most))) in
       goes.posts a b ∙ (ap (λ (x : List (Post O)). goes.rest a b ++ x) off ∙ left (at_front O t.taken a b) (goes.rest a b) (sym (goes.takes a b) ∙ was))
     where
       left : (xs ys : List (Post O)) → xs ++ ys ≡ [] → ys ++ [] ≡ []

@@ -112,7 +112,7 @@ module _ (O : Ops) (S : Sound O) where
   own_lands (Gossips heard other) m = omega arith
   own_lands (Strange p) m = omega arith
 
-  few_lands : (p : ℕ) (h : List (Turn O)) → (moves p (events O h)).lands ≤ length h
+  pub few_lands : (p : ℕ) (h : List (Turn O)) → (moves p (events O h)).lands ≤ length h
   few_lands p [] = omega arith
   few_lands p (t ∷ h) = go (p == pid_of t.event.what) (few_lands p h)
     where

@@ -1,28 +1,14 @@
 -- What each node did by itself and what each link lists; and when a list of turns, the newest first, is carried by its links. No order is assumed but that of
 -- each node and of each link.
-use Rattle.std.specs.Prelude.{◌≡◌, ℕ, ◌<◌, ◌⊎◌, ◌==◌, cond, List, [], ◌∷◌, ◌++◌, IfSome}
+pub use Rattle.run_laws.specs.Weaving.{Each, Later, Sorted, own_events}
+use Rattle.run_laws.specs.Weaving as weaving
+use Rattle.run_laws.specs.Weaving.{Steps}
+use Rattle.std.specs.Prelude.{◌≡◌, ℕ, ◌==◌, cond, List, [], ◌∷◌, ◌++◌}
 use Rattle.protocol.specs.Ops.{Ops}
 use Rattle.protocol.specs.Deeds.{Deed, Strange, Noted}
 use Rattle.protocol.specs.Notes.{Post, Turn, Local}
 use Rattle.protocol.specs.Does.{Makes}
-use Rattle.protocol.specs.Cluster.{World, for_link, at_front, Fresh, Reached, events}
-
--- by the list's own recursion, so that it opens with the list
-abbrev pub Each : {A : Type 0} → (A → Type 0) → List A → Type 0
-Each P [] = Unit {0}
-Each P (x ∷ xs) = P x × Each P xs
-
--- sorted by stamp, and by node where stamps are equal, the newest first
-abbrev pub Later : Noted → Noted → Type 0
-Later e f = (f.stamp < e.stamp) ⊎ ((f.stamp ≡ e.stamp) × (f.node < e.node))
-
-abbrev pub Sorted : List Noted → Type 0
-Sorted [] = Unit {0}
-Sorted (e ∷ before) = Each (λ f. Later e f) before × Sorted before
-
-abbrev pub own_events : ℕ → List Noted → List Noted
-own_events n [] = []
-own_events n (e ∷ before) = cond (e.node == n) (e ∷ own_events n before) (own_events n before)
+use Rattle.protocol.specs.Cluster.{World, Fresh, Reached, events}
 
 -- what a turn adds to the journal of its node: a letter that did not fit adds nothing
 abbrev pub recorded : Noted → Deed → List Noted
@@ -39,28 +25,40 @@ module _ (O : Ops) where
   abbrev pub NoneStrange : List (Turn O) → Type 0
   NoneStrange turns = Each (λ t. IsUsual t.event.what) turns
 
-  -- ys begins with xs
-  abbrev pub Begins : List (Post O) → List (Post O) → Type 0
-  Begins xs ys = (rest : List (Post O)) × (xs ++ rest ≡ ys)
+  -- the turns that its nodes may make
+  abbrev pub steps : Steps
+  steps = record {
+    Local = Local O;
+    Letter = Post O;
+    Turn = Turn O;
+    from = λ l. l.from;
+    to = λ l. l.to;
+    stamp = λ l. l.stamp;
+    event = λ t. t.event;
+    taken = λ t. t.taken;
+    posted = λ t. t.posted;
+    clock = λ l. l.clock;
+    Fresh = Fresh O;
+    Makes = Makes O;
+  }
+
+  abbrev pub world_of : World O → weaving.World steps
+  world_of w = record { nodes = w.nodes; links = w.links }
 
   -- the letters that the turns posted on a link, and those that they took from it, the first one first
   abbrev pub posted_on : ℕ → ℕ → List (Turn O) → List (Post O)
-  posted_on a b [] = []
-  posted_on a b (t ∷ before) = posted_on a b before ++ for_link O a b t.posted
+  posted_on a b h = weaving.posted_on steps a b h
 
   abbrev pub taken_on : ℕ → ℕ → List (Turn O) → List (Post O)
-  taken_on a b [] = []
-  taken_on a b (t ∷ before) = taken_on a b before ++ at_front O t.taken a b
+  taken_on a b h = weaving.taken_on steps a b h
 
   -- on each link what was taken was posted before, in its order
   abbrev pub Carried : List (Turn O) → Type 0
-  Carried [] = Unit {0}
-  Carried (t ∷ before) = ((a b : ℕ) → Begins (taken_on a b (t ∷ before)) (posted_on a b before)) × Carried before
+  Carried h = weaving.Carried steps h
 
   -- each letter goes out from its turn's node with the turn's stamp, and comes in at the node with a smaller one
-  pub record Marked (t : Turn O) : Type 0 where
-    pub posted : Each (λ l. (l.from ≡ t.event.node) × (l.stamp ≡ t.event.stamp)) t.posted
-    pub taken : IfSome t.taken (λ l. (l.to ≡ t.event.node) × (l.stamp < t.event.stamp))
+  abbrev pub Marked : Turn O → Type 0
+  Marked t = weaving.Marked steps t
 
   -- these events are those of turns that lead to w, each one that its node may make, and whose letters the links carried
   pub record CarriedRun (es : List Noted) (w : World O) : Type 0 where
@@ -70,20 +68,13 @@ module _ (O : Ops) where
     pub carried : Carried turns
     pub marked : Each (λ t. Marked t) turns
 
-  -- the turns of one node
-  abbrev pub own : ℕ → List (Turn O) → List (Turn O)
-  own n [] = []
-  own n (t ∷ before) = cond (t.event.node == n) (t ∷ own n before) (own n before)
-
   -- from a fresh node these turns lead to this: its state is what its own turns make of it
   abbrev pub Alone : ℕ → List (Turn O) → Local O → Type 0
-  Alone n [] new = Fresh O n new
-  Alone n (t ∷ before) new = (old : Local O) × Alone n before old × Makes O n old t new
+  Alone n h new = weaving.Alone steps n h new
 
   -- what the nodes did, each by itself, and what then lies on the links
-  pub record Did (turns : ℕ → List (Turn O)) (w : World O) : Type 0 where
-    pub nodes : (n : ℕ) → Alone n (turns n) (w.nodes n)
-    pub links : (a b : ℕ) → taken_on a b (turns b) ++ w.links a b ≡ posted_on a b (turns a)
+  abbrev pub Did : (ℕ → List (Turn O)) → World O → Type 0
+  Did turns w = weaving.Did steps turns (world_of w)
 
   -- the turns with one more
   abbrev pub grown : (ℕ → List (Turn O)) → Turn O → ℕ → List (Turn O)

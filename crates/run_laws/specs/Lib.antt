@@ -23,7 +23,9 @@ pub mod Outcomes
 pub mod SmallMachine
 pub mod Histories
 pub mod Whole
+pub mod Weaving
 pub mod Carried
+pub mod Skipping
 pub mod Due
 pub mod Ends
 pub mod Owned

@@ -22,6 +22,7 @@ ghost use Rattle.run_laws.specs.GossipStories.{pusher, push_events, heavy, denie
 ghost use Rattle.run_laws.specs.OneNode.{AllHome};
 ghost use Rattle.run_laws.specs.WholeStory.{traveller, travel_events, travel_done};
 ghost use Rattle.run_laws.specs.Carried.{Did, Sorted, own_events, shown, CarriedRun, NoneStrange};
+ghost use Rattle.run_laws.specs.Skipping.{Act, DidAll, journal, NoneSkipped};
 ghost use Rattle.run_laws.specs.Histories.{read, left_out, hello_script, hello, hello_events, writer, twice_events, fork_script, forker, fork_events, move_script, mover, move_events, first_events, copy_events, refused_events, again_events, break_script, breaker, break_events, left_events, poke_script, poker, poke_events, unheeded_events};
 
 /// Whatever the cluster of the small machine does, turn after turn, all laws hold of its events, its letters are carried, and no letter is strange. `h` are
@@ -46,6 +47,13 @@ pub fn runs_of_one_node()
 /// stamp, no clock and no count of landings comes near its end, and each letter lies on the link to its target.
 pub fn no_odd_letters()
     ensures { (h : List (Turn mover)) (w : World mover) (run : Reached mover h w) (a n : ℕ) (l : Post mover) (rest : List (Post mover)) → Timed mover h w run → length h < hops_end → n < mover.nodes → w.links a n ≡ l ∷ rest → IsOdd mover n (w.nodes n) l → ⊥ }
+{}
+
+/// Nor where only each node's own order is known: nodes make turns, each stamp exactly one more than the clock and the letter's stamp, and skip odd letters, each by
+/// itself, and whatever each link lists. Where the journals, put in order by stamp and node, have fewer than 2^32 - 1 events, no node skipped a letter. `acts` are
+/// what each node did, the newest first, `w` how that leaves the nodes and links, and `es` the list.
+pub fn none_skipped()
+    ensures { (acts : ℕ → List (Act mover)) (w : World mover) (es : List Event) → DidAll mover acts w → Sorted (all_noted mover.script es) → ((n : ℕ) → own_events n (all_noted mover.script es) ≡ journal mover (acts n)) → length (all_noted mover.script es) < hops_end → (n : ℕ) → NoneSkipped mover (acts n) }
 {}
 
 /// How it ends, at whatever moment: what a node can do without a letter is what is due there by the events and the one-node machine; where every link is
