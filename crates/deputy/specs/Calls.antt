@@ -23,7 +23,8 @@ use Rattle.kernel_spec.specs.Calls.{call_result}
 use Rattle.deputy.specs.declared.row.Row.{Row}
 use Rattle.deputy.specs.declared.row.HeldCall.{HeldCall}
 use Rattle.deputy.specs.declared.pokes.Pokes.{Pokes}
-use Rattle.deputy.specs.Rows.{HomeState, held_at, place_at, holding, counted, with_born, held_pids}
+use Rattle.deputy.specs.declared.asks.Asks.{Asks}
+use Rattle.deputy.specs.Rows.{HomeState, held_at, place_at, holding, counted, is_fork, with_born, held_pids}
 use Rattle.kernel_spec.specs.Pids.{changed_pid}
 
 -- home after a turn, and what came of it
@@ -128,6 +129,10 @@ in_order (Some a) (Some b) =
 abbrev pub pokes_of : KernelState → List Row → ℕ → Option ℕ → Option ℕ → Pokes
 pokes_of k rows pid a b = in_order (to_poke k rows pid a) (to_poke k rows pid b)
 
+abbrev pub poke_to : ℕ → Option ℕ → List (ℕ × Message)
+poke_to place None = []
+poke_to place (Some pid) = (place, message.Poke pid) ∷ []
+
 -- each goes to the place where home believes the process to be
 abbrev pub poke_mail : List Row → Option ℕ → List (ℕ × Message)
 poke_mail rows None = []
@@ -139,13 +144,6 @@ abbrev pub value_in : Option Answer → Option ℤ
 value_in None = None
 value_in (Some answer) = Some answer.value
 
--- who asks: the node that sent the call or the pause, the process, the call's number (0 for a fault, none for a pause), and whether there is room for a frame
-pub record Asks : Type 0 where
-  pub from : ℕ
-  pub pid : ℕ
-  pub number : Option ℕ
-  pub room : Bool
-
 -- a forwarded call is counted, and a pause is not
 abbrev pub counted_rows : Option ℕ → ℕ → List Row → List Row
 counted_rows None pid rows = rows
@@ -153,7 +151,7 @@ counted_rows (Some number) pid rows = changed_pid counted rows pid
 
 -- a fork's child has a row
 abbrev pub served_rows : Asks → Option Answer → List Row → List Row
-served_rows asks answer rows = counted_rows asks.number asks.pid (with_born answer asks.from rows)
+served_rows asks answer rows = counted_rows asks.number asks.pid (with_born (is_fork answer) asks.from rows)
 
 abbrev pub done_of : ℕ → First → Last → Done
 done_of pid first last = record { answer = first.answer; taken = last.taken; ended = not (is_live last.kernel pid); more = is_some (deliverable last.kernel pid) }

@@ -11,12 +11,12 @@ use Rattle.call_forward.specs.declared.message.Message.{Message}
 use Rattle.call_forward.specs.declared.message.Message.TheVariants as message
 use Rattle.call_forward.specs.declared.acted.Acted.{Acted}
 use Rattle.kernel_spec.specs.Pids.{changed_pid}
-use Rattle.kernel_spec.specs.Processes.{heeding}
+use Rattle.home_kernel.specs.Serving.{is_poked}
 use Rattle.kernel_spec.specs.Kernel.{KernelState, given, is_live, has_room, with_process, with_raised, deliverable}
 use Rattle.deputy.specs.declared.row.Row.{Row}
 use Rattle.deputy.specs.declared.row.HeldCall.{HeldCall}
 use Rattle.deputy.specs.Rows.{HomeState, held_at, served_at, place_at, hops_at, moved, new_row}
-use Rattle.deputy.specs.Calls.{Turned, strange, poke_mail, fits_call, may_ask}
+use Rattle.deputy.specs.Calls.{Turned, strange, poke_to, poke_mail, fits_call, may_ask}
 
 -- ---- orders
 
@@ -33,7 +33,7 @@ ordered line why poked = what.Command line None why poked
 -- a process that a signal counts at is poked where it can take one afterwards, and has no call that waits
 abbrev pub kill_poke : KernelState → List Row → ℕ → ℕ → Option ℕ
 kill_poke k rows pid signal =
-    if is_some (heeding k.processes pid signal) && (is_some (deliverable (with_raised k pid signal) pid) && is_none (held_at rows pid)) then Some pid else None
+    if is_poked k pid signal && is_none (held_at rows pid) then Some pid else None
 
 abbrev pub kill_turn : HomeState → ℕ → ℕ → ℕ → Option ℕ → Turned
 kill_turn h pid signal line poked = record {
@@ -45,8 +45,8 @@ abbrev pub killed_in : HomeState → ℕ → ℕ → ℕ → Turned
 killed_in h pid signal line = kill_turn h pid signal line (kill_poke h.kernel h.rows pid signal)
 
 -- whether a pid was given
-abbrev pub was_given : HomeState → ℕ → Bool
-was_given h pid = nat_le 1 pid && nat_le pid (given h.kernel)
+abbrev pub was_given : KernelState → ℕ → Bool
+was_given k pid = nat_le 1 pid && nat_le pid (given k)
 
 -- the order to move goes to the place where the process is believed to be, with the landings by which that was told
 abbrev pub go_mail : List Row → ℕ → ℕ → ℕ → List (ℕ × Message)
@@ -55,7 +55,7 @@ go_mail rows pid to line = (place_at rows pid, message.Go pid to (hops_at rows p
 abbrev pub go_acted : HomeState → ℕ → ℕ → ℕ → Acted
 go_acted h pid to line =
     if is_live h.kernel pid then record { what = ordered line None None; mail = go_mail h.rows pid to line } else
-    (if was_given h pid then record { what = ordered line (Some unsent.Ended) None; mail = [] } else record { what = ordered line (Some unsent.Never) None; mail = [] })
+    (if was_given h.kernel pid then record { what = ordered line (Some unsent.Ended) None; mail = [] } else record { what = ordered line (Some unsent.Never) None; mail = [] })
 
 abbrev pub went_in : HomeState → ℕ → ℕ → ℕ → Turned
 went_in h pid to line = record { home = h; acted = go_acted h pid to line }
@@ -63,24 +63,30 @@ went_in h pid to line = record { home = h; acted = go_acted h pid to line }
 -- ---- what home hears
 
 -- the place changes only to more landings
-abbrev pub landed_rows : ℕ → ℕ → ℕ → List Row → List Row
-landed_rows at pid hops rows = if nat_lt (hops_at rows pid) hops then changed_pid (moved at hops) rows pid else rows
+abbrev pub is_later : List Row → ℕ → ℕ → Bool
+is_later rows pid hops = nat_lt (hops_at rows pid) hops
+
+abbrev pub landed_rows : Bool → ℕ → ℕ → ℕ → List Row → List Row
+landed_rows later at pid hops rows = if later then changed_pid (moved at hops) rows pid else rows
+
+abbrev pub landed_place : Bool → ℕ → ℕ → List Row → ℕ
+landed_place later at pid rows = if later then at else place_at rows pid
 
 -- a process that lands is poked where it can take a signal
 abbrev pub landed_poke : KernelState → ℕ → Option ℕ
 landed_poke k pid = if is_some (deliverable k pid) then Some pid else None
 
-abbrev pub land_turn : KernelState → List Row → What → Option ℕ → Turned
-land_turn k rows what poked = record { home = record { kernel = k; rows = rows }; acted = record { what = what; mail = poke_mail rows poked } }
-
-abbrev pub told : ℕ → ℕ → ℕ → ℕ → Option ℕ → Option ℕ → What
-told at pid source hops line poked = what.Told pid at source hops line poked
+abbrev pub told_turn : Bool → HomeState → ℕ → ℕ → ℕ → ℕ → Option ℕ → Turned
+told_turn later h at pid source hops line = record {
+  home = record h { rows = landed_rows later at pid hops h.rows };
+  acted = record {
+    what = what.Told pid at source hops line (landed_poke h.kernel pid);
+    mail = poke_to (landed_place later at pid h.rows) (landed_poke h.kernel pid);
+  };
+}
 
 abbrev pub landed_in : HomeState → ℕ → ℕ → ℕ → ℕ → Option ℕ → Turned
-landed_in h at pid source hops line =
-    if was_given h pid
-    then land_turn h.kernel (landed_rows at pid hops h.rows) (told at pid source hops line (landed_poke h.kernel pid)) (landed_poke h.kernel pid)
-    else strange h
+landed_in h at pid source hops line = if was_given h.kernel pid then told_turn (is_later h.rows pid hops) h at pid source hops line else strange h
 
 -- an order that missed its process goes out again where more landings were told than it knew of
 abbrev pub missed_acted : HomeState → ℕ → ℕ → ℕ → ℕ → Acted
@@ -92,7 +98,7 @@ missed_acted h pid to hops line =
     else record { what = what.Refused pid to refusal.Ended line; mail = [] }
 
 abbrev pub missed_in : HomeState → ℕ → ℕ → ℕ → ℕ → Turned
-missed_in h pid to hops line = if was_given h pid then record { home = h; acted = missed_acted h pid to hops line } else strange h
+missed_in h pid to hops line = if was_given h.kernel pid then record { home = h; acted = missed_acted h pid to hops line } else strange h
 
 abbrev pub closed_acted : ℕ → Acted
 closed_acted line = record { what = what.Closed line; mail = [] }
@@ -110,11 +116,11 @@ home_suits h (message.Pause pid room) = may_ask h pid
 home_suits h (message.Reply pid done) = true
 home_suits h (message.Poke pid) = true
 home_suits h (message.Go pid to hops line) = true
-home_suits h (message.NotHere pid to hops line) = was_given h pid
+home_suits h (message.NotHere pid to hops line) = was_given h.kernel pid
 home_suits h (message.Ask pid need) = true
 home_suits h (message.Allow pid) = true
 home_suits h (message.Deny pid need free) = true
 home_suits h (message.Move pid user hops line) = true
-home_suits h (message.Landed pid source hops line) = was_given h pid
+home_suits h (message.Landed pid source hops line) = was_given h.kernel pid
 home_suits h (message.NoMove line) = true
 home_suits h (message.Half places) = true

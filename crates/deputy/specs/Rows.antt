@@ -67,15 +67,19 @@ counted row = record row { served = min (row.served + 1) (2 ^ 64 - 1); held = No
 abbrev pub moved : ℕ → ℕ → Row → Row
 moved place hops row = record row { place = place; hops = hops }
 
--- a fork's child, at the node that its call came from
-abbrev pub with_child : Kind → ℕ → List Row → List Row
-with_child Plain from rows = rows
-with_child Fork from rows = rows ++ new_row from ∷ []
-with_child Return from rows = rows
+-- whether an answer is that of a fork that made a child
+abbrev pub is_fork_kind : Kind → Bool
+is_fork_kind Plain = false
+is_fork_kind Fork = true
+is_fork_kind Return = false
 
-abbrev pub with_born : Option Answer → ℕ → List Row → List Row
-with_born None from rows = rows
-with_born (Some answer) from rows = with_child answer.kind from rows
+abbrev pub is_fork : Option Answer → Bool
+is_fork None = false
+is_fork (Some answer) = is_fork_kind answer.kind
+
+-- a fork's child has a row, at the node that the call came from
+abbrev pub with_born : Bool → ℕ → List Row → List Row
+with_born forked from rows = if forked then rows ++ new_row from ∷ [] else rows
 
 -- the row of one pid is another one
 pub record PutsRow (p : ℕ) (row : Row) (old new : List Row) : Type 0 where

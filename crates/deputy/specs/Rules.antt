@@ -5,12 +5,13 @@ use Rattle.kernel_spec.specs.Kernel.{KernelState, given, is_live}
 use Rattle.deputy.specs.declared.row.Row.{Row}
 use Rattle.deputy.specs.declared.row.HeldCall.{HeldCall}
 use Rattle.deputy.specs.Rows.{held_at}
-use Rattle.deputy.specs.Calls.{next_ready}
+use Rattle.deputy.specs.Calls.{fits_request, next_ready}
 
 -- a call waits of a live process alone, and it is no fault
 pub record CanWait (k : KernelState) (pid : ℕ) (r : Request) : Type 0 where
   pub live : is_live k pid ≡ true
   pub call : (r.number == 0) ≡ false
+  pub fits : fits_request r ≡ true
 
 -- each pid that was given has a row; `settled` says that no call that waits can go on
 pub record IsHome (k : KernelState) (rows : List Row) (settled : Bool) : Type 0 where
