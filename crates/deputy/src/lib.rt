@@ -11,6 +11,8 @@ mod posting;
 mod row;
 mod rows;
 mod serving;
+#[cfg(test)]
+mod tests;
 
 pub use deputies::Deputies;
 pub use row::{HeldCall, Row};

@@ -1,0 +1,118 @@
+-- The pids whose calls wait, after a row was changed or added.
+use Rattle.std.proofs.Common.{◌≡◌, ℕ, zero, suc, ◌+◌, ◌<◌, ◌≤◌, cond, nat_le, Bool, true, false, List, [], ◌∷◌, ◌++◌, length, set, take, drop, Option, Some, None, slice_get, refl, ap, sym, ◌∙◌, arith, add-one}
+use Rattle.std.specs.List.{insert, remove}
+use Rattle.std.proofs.lemmas.Bool.{le-leb}
+use Rattle.std.proofs.lemmas.Bool.Decides.{nat_tests}
+use Rattle.deputy.specs.declared.row.Row.{Row}
+use Rattle.deputy.specs.declared.row.HeldCall.{HeldCall}
+use Rattle.deputy.specs.Rows.{new_row, held_one, held_from, held_pids, before}
+
+above : (m n : ℕ) → n < m → nat_le m n ≡ false
+above m n h = grind (arith, nat_tests)
+
+-- the pids from one on are not below it
+none_before : (m n : ℕ) (rows : List Row) → m ≤ n → before m (held_from n rows) ≡ 0
+none_before m n [] h = refl
+none_before m n (row ∷ rows) h = by_held row.held
+  where
+    by_held : (o : Option HeldCall) → before m (held_one n o (held_from (n + 1) rows)) ≡ 0
+    by_held None = none_before m (n + 1) rows (omega arith)
+    by_held (Some call) = ap (λ b. cond b 0 (before m (held_from (n + 1) rows) + 1)) (le-leb m n h)
+
+insert_front : (w : ℕ) (ws : List ℕ) (k m : ℕ) → insert (w ∷ ws) (k + 1) m ≡ w ∷ insert ws k m
+insert_front w ws k m = rw add-one refl
+
+remove_front : (w : ℕ) (ws : List ℕ) (k : ℕ) → remove (w ∷ ws) (k + 1) ≡ w ∷ remove ws k
+remove_front w ws k = rw add-one refl
+
+before_front : (m n : ℕ) (ws : List ℕ) → n < m → before m (n ∷ ws) ≡ before m ws + 1
+before_front m n ws h = ap (λ b. cond b 0 (before m ws + 1)) (above m n h)
+
+before_here : (m n : ℕ) (ws : List ℕ) → m ≤ n → before m (n ∷ ws) ≡ 0
+before_here m n ws h = ap (λ b. cond b 0 (before m ws + 1)) (le-leb m n h)
+
+held_head : (n : ℕ) (row : Row) (o : Option HeldCall) (ws : List ℕ) → row.held ≡ o → held_one n row.held ws ≡ held_one n o ws
+held_head n row o ws e = ap (λ x. held_one n x ws) e
+
+same_some : {A : Type 0} (x y : A) → Some x ≡ Some y → x ≡ y
+same_some x y h = cc
+
+same_held : (x row : Row) (o : Option HeldCall) → Some x ≡ Some row → row.held ≡ o → x.held ≡ o
+same_held x row o e h = ap (λ (r : Row). r.held) (same_some x row e) ∙ h
+
+-- a call more waits
+pub held_more : (xs : List Row) (n i m : ℕ) (row new : Row) (call : HeldCall) → m ≡ n + i → slice_get xs i ≡ Some row → row.held ≡ None → new.held ≡ Some call
+    → held_from n (set xs i new) ≡ insert (held_from n xs) (before m (held_from n xs)) m
+held_more [] n i m row new call e here was is = absurd (cc)
+held_more (x ∷ xs) n zero m row new call e here was is =
+    let ws : List ℕ = held_from (n + 1) xs in
+    let at : m ≡ n = omega (arith, e) in
+    let none : held_from n (x ∷ xs) ≡ ws = held_head n x None ws (same_held x row None here was) in
+    let zero_before : before m ws ≡ 0 = none_before m (n + 1) xs (omega (arith, at)) in
+    held_head n new (Some call) ws is ∙ (ap (λ k. k ∷ ws) (sym at) ∙ (ap (λ k. insert ws k m) (sym zero_before) ∙ ap (λ us. insert us (before m us) m) (sym none)))
+held_more (x ∷ xs) n (suc i) m row new call e here was is = by_held x.held
+  where
+    ws : List ℕ
+    ws = held_from (n + 1) xs
+    rest : held_from (n + 1) (set xs i new) ≡ insert ws (before m ws) m
+    rest = held_more xs (n + 1) i m row new call (omega (arith, e)) here was is
+    below : n < m
+    below = omega (arith, e)
+    by_held : (o : Option HeldCall) → held_one n o (held_from (n + 1) (set xs i new)) ≡ insert (held_one n o ws) (before m (held_one n o ws)) m
+    by_held None = rest
+    by_held (Some held) = ap (λ us. n ∷ us) rest ∙ (sym (insert_front n ws (before m ws) m) ∙ ap (λ k. insert (n ∷ ws) k m) (sym (before_front m n ws below)))
+
+-- a call waits no more
+pub held_less : (xs : List Row) (n i m : ℕ) (row new : Row) (call : HeldCall) → m ≡ n + i → slice_get xs i ≡ Some row → row.held ≡ Some call → new.held ≡ None
+    → held_from n (set xs i new) ≡ remove (held_from n xs) (before m (held_from n xs))
+held_less [] n i m row new call e here was is = absurd (cc)
+held_less (x ∷ xs) n zero m row new call e here was is =
+    let ws : List ℕ = held_from (n + 1) xs in
+    let one : held_from n (x ∷ xs) ≡ n ∷ ws = held_head n x (Some call) ws (same_held x row (Some call) here was) in
+    let zero_before : before m (n ∷ ws) ≡ 0 = before_here m n ws (omega (arith, e)) in
+    held_head n new None ws is ∙ (ap (remove (n ∷ ws)) (sym zero_before) ∙ ap (λ us. remove us (before m us)) (sym one))
+held_less (x ∷ xs) n (suc i) m row new call e here was is = by_held x.held
+  where
+    ws : List ℕ
+    ws = held_from (n + 1) xs
+    rest : held_from (n + 1) (set xs i new) ≡ remove ws (before m ws)
+    rest = held_less xs (n + 1) i m row new call (omega (arith, e)) here was is
+    below : n < m
+    below = omega (arith, e)
+    by_held : (o : Option HeldCall) → held_one n o (held_from (n + 1) (set xs i new)) ≡ remove (held_one n o ws) (before m (held_one n o ws))
+    by_held None = rest
+    by_held (Some held) = ap (λ us. n ∷ us) rest ∙ (sym (remove_front n ws (before m ws)) ∙ ap (remove (n ∷ ws)) (sym (before_front m n ws below)))
+
+-- and it stands in the list
+pub held_within : (xs : List Row) (n i m : ℕ) (row : Row) (call : HeldCall) → m ≡ n + i → slice_get xs i ≡ Some row → row.held ≡ Some call
+    → before m (held_from n xs) < length (held_from n xs)
+held_within [] n i m row call e here was = absurd (cc)
+held_within (x ∷ xs) n zero m row call e here was =
+    let ws : List ℕ = held_from (n + 1) xs in
+    let one : held_from n (x ∷ xs) ≡ n ∷ ws = held_head n x (Some call) ws (same_held x row (Some call) here was) in
+    let zero_before : before m (n ∷ ws) ≡ 0 = before_here m n ws (omega (arith, e)) in
+    let first : before m (held_from n (x ∷ xs)) ≡ 0 = ap (before m) one ∙ zero_before in
+    let len : length (held_from n (x ∷ xs)) ≡ suc (length ws) = ap (λ (us : List ℕ). length us) one in
+    omega (arith, first, len)
+held_within (x ∷ xs) n (suc i) m row call e here was = by_held x.held
+  where
+    ws : List ℕ
+    ws = held_from (n + 1) xs
+    rest : before m ws < length ws
+    rest = held_within xs (n + 1) i m row call (omega (arith, e)) here was
+    by_held : (o : Option HeldCall) → before m (held_one n o ws) < length (held_one n o ws)
+    by_held None = rest
+    by_held (Some held) = let front = before_front m n ws (omega (arith, e)) in omega (arith, front, rest)
+
+-- a row whose call is as it was
+pub held_same : (xs : List Row) (n i : ℕ) (row new : Row) → slice_get xs i ≡ Some row → new.held ≡ row.held → held_from n (set xs i new) ≡ held_from n xs
+held_same [] n i row new here is = refl
+held_same (x ∷ xs) n zero row new here is =
+    let same : new.held ≡ x.held = is ∙ sym (same_held x row row.held here refl) in
+    ap (λ o. held_one n o (held_from (n + 1) xs)) same
+held_same (x ∷ xs) n (suc i) row new here is = ap (held_one n x.held) (held_same xs (n + 1) i row new here is)
+
+-- a row more
+pub held_push : (xs : List Row) (n place : ℕ) → held_from n (xs ++ new_row place ∷ []) ≡ held_from n xs
+held_push [] n place = refl
+held_push (x ∷ xs) n place = ap (held_one n x.held) (held_push xs (n + 1) place)
