@@ -138,9 +138,11 @@ first_keeps k p r = by_number (r.number == 0)
     by_signal : (o : Option ℕ) → KeepsFirst k p (broken_by o k)
     by_signal None = tt
     by_signal (Some s) = kept_same k p
+
     by_called : (o : Option Called) → call_result k p r ≡ o → KeepsFirst k p (first_by o k p)
     by_called None h = by_signal (deliverable k p)
     by_called (Some called) h = called_keeps k p r called h
+
     by_number : (b : Bool) → KeepsFirst k p (cond b (Some (fell k p (slice_index r.args 0))) (first_by (call_result k p r) k p))
     by_number true = kept_none k _ p _ (end_leaves k p (ends.Signal (slice_index r.args 0)))
     by_number false = by_called (call_result k p r) refl
@@ -182,6 +184,7 @@ served_home k new rows settled asks answer h keeps free = record {
         by_held : (o : Option HeldCall) → held_at (with_born forked asks.from rows) asks.pid ≡ o → o ≡ None
         by_held None is = refl
         by_held (Some call) is = let was = held_born forked asks.from rows asks.pid call is in absurd (cc)
+
     free_born : (forked : Bool) → asks.number ≡ None → held_at (with_born forked asks.from rows) asks.pid ≡ None
     free_born forked e = none_born forked (free e)
 
@@ -189,7 +192,7 @@ pub answered_home : (k : KernelState) (rows : List Row) (settled : Bool) (asks :
     → (asks.number ≡ None → held_at rows asks.pid ≡ None) → IsHome (answered asks first rows).home.kernel (answered asks first rows).home.rows false
 answered_home k rows settled asks first h keeps free =
     served_home k (last_of first.kernel asks.pid asks.room).kernel rows settled asks first.answer h
-      (then_keeps k first.kernel (last_of first.kernel asks.pid asks.room).kernel asks.pid (is_fork first.answer) keeps (last_keeps first.kernel asks.pid asks.room)) free
+    (then_keeps k first.kernel (last_of first.kernel asks.pid asks.room).kernel asks.pid (is_fork first.answer) keeps (last_keeps first.kernel asks.pid asks.room)) free
 
 -- a call more waits
 holding_held : (call : HeldCall) (o : Option Row) (is : HeldCall) → held_of (option_map (holding call) o) ≡ Some is → is ≡ call
@@ -233,4 +236,4 @@ pub paused_home : (h : HomeState) (settled : Bool) (from pid : ℕ) (room : Bool
     → answered (pause_asks from pid room) (paused h.kernel) h.rows ≡ t → IsHome t.home.kernel t.home.rows false
 paused_home h settled from pid room t is fits e =
     subst (λ (x : Turned). IsHome x.home.kernel x.home.rows false) e
-      (answered_home h.kernel h.rows settled (pause_asks from pid room) (paused h.kernel) is (kept_same h.kernel pid) (λ none. none_is (held_at h.rows pid) (both (is_live h.kernel pid) (is_none (held_at h.rows pid)) fits).1))
+    (answered_home h.kernel h.rows settled (pause_asks from pid room) (paused h.kernel) is (kept_same h.kernel pid) (λ none. none_is (held_at h.rows pid) (both (is_live h.kernel pid) (is_none (held_at h.rows pid)) fits).1))

@@ -40,6 +40,7 @@ retried_home h settled pid t is e = subst (λ (x : Retried). IsHome x.home.kerne
     by_first : (call : HeldCall) (o : Option First) → KeepsFirst h.kernel pid o → IsHome (retry_turn o h pid call).home.kernel (retry_turn o h pid call).home.rows false
     by_first call None keeps = unsettled h.kernel h.rows settled is
     by_first call (Some first) keeps = answered_home h.kernel h.rows settled (call_asks call.from pid call.request) first is keeps (λ e. absurd (cc))
+
     by_held : (o : Option HeldCall) → IsHome (retry_call o h pid).home.kernel (retry_call o h pid).home.rows false
     by_held None = unsettled h.kernel h.rows settled is
     by_held (Some call) = by_first call (first_of h.kernel pid call.request) (first_keeps h.kernel pid call.request)
@@ -51,6 +52,7 @@ comes k pid r call h = ap (λ b. is_some (cond b (Some (fell k pid (slice_index 
     by_signal : (o : Option ℕ) → is_some o ≡ true → is_some (broken_by o k) ≡ true
     by_signal None h = absurd (cc)
     by_signal (Some s) h = refl
+
     by_called : (o : Option Called) → (is_some o || is_some (deliverable k pid)) ≡ true → is_some (first_by o k pid) ≡ true
     by_called None h = by_signal (deliverable k pid) h
     by_called (Some called) h = refl
@@ -61,6 +63,7 @@ ready_served h settled pid is e = by_held (held_at h.rows pid) refl (found (goes
     by_first : (call : HeldCall) (o : Option First) → is_some o ≡ true → is_some (retry_turn o h pid call).acted ≡ true
     by_first call None h = absurd (cc)
     by_first call (Some first) h = refl
+
     by_held : (o : Option HeldCall) → held_at h.rows pid ≡ o → can_go_on h.kernel pid o ≡ true → is_some (retry_call o h pid).acted ≡ true
     by_held None here ready = absurd (cc)
     by_held (Some call) here ready =

@@ -54,10 +54,13 @@ held_more (x ∷ xs) n (suc i) m row new call e here was is = by_held x.held
   where
     ws : List ℕ
     ws = held_from (n + 1) xs
+
     rest : held_from (n + 1) (set xs i new) ≡ insert ws (before m ws) m
     rest = held_more xs (n + 1) i m row new call (omega (arith, e)) here was is
+
     below : n < m
     below = omega (arith, e)
+
     by_held : (o : Option HeldCall) → held_one n o (held_from (n + 1) (set xs i new)) ≡ insert (held_one n o ws) (before m (held_one n o ws)) m
     by_held None = rest
     by_held (Some held) = ap (λ us. n ∷ us) rest ∙ (sym (insert_front n ws (before m ws) m) ∙ ap (λ k. insert (n ∷ ws) k m) (sym (before_front m n ws below)))
@@ -75,10 +78,13 @@ held_less (x ∷ xs) n (suc i) m row new call e here was is = by_held x.held
   where
     ws : List ℕ
     ws = held_from (n + 1) xs
+
     rest : held_from (n + 1) (set xs i new) ≡ remove ws (before m ws)
     rest = held_less xs (n + 1) i m row new call (omega (arith, e)) here was is
+
     below : n < m
     below = omega (arith, e)
+
     by_held : (o : Option HeldCall) → held_one n o (held_from (n + 1) (set xs i new)) ≡ remove (held_one n o ws) (before m (held_one n o ws))
     by_held None = rest
     by_held (Some held) = ap (λ us. n ∷ us) rest ∙ (sym (remove_front n ws (before m ws)) ∙ ap (remove (n ∷ ws)) (sym (before_front m n ws below)))
@@ -98,8 +104,10 @@ held_within (x ∷ xs) n (suc i) m row call e here was = by_held x.held
   where
     ws : List ℕ
     ws = held_from (n + 1) xs
+
     rest : before m ws < length ws
     rest = held_within xs (n + 1) i m row call (omega (arith, e)) here was
+
     by_held : (o : Option HeldCall) → before m (held_one n o ws) < length (held_one n o ws)
     by_held None = rest
     by_held (Some held) = let front = before_front m n ws (omega (arith, e)) in omega (arith, front, rest)
