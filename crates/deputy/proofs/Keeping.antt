@@ -1,7 +1,8 @@
 -- What holds of every home holds after a turn.
 use Rattle.std.proofs.Common.{◌≡◌, ◌≢◌, ◌⊎◌, inl, inr, ℕ, zero, suc, ◌+◌, ◌<◌, ◌≤◌, ◌==◌, ◌&&◌, ◌||◌, not, cond, min, nat_le, Bool, true, false, List, [], ◌∷◌, ◌++◌, length, Option, Some, None, is_some, is_none, slice_get, slice_index, refl, ap, sym, subst, ◌∙◌, arith}
-use Rattle.std.specs.Option.{option_map}
+use Rattle.std.specs.Option.{option_map, option_map_or}
 use Rattle.std.proofs.lemmas.Bool.{cases_eq}
+use Rattle.std.proofs.lemmas.Bool.Decides.{nat_tests}
 use Rattle.std.proofs.lemmas.List.{length_push, length-set}
 use Rattle.std.proofs.lemmas.Option.{slice_get_past, slice_get_within}
 use Rattle.call_table.specs.declared.request.Request.{Request}
@@ -24,6 +25,7 @@ use Rattle.deputy.specs.declared.row.HeldCall.{HeldCall}
 use Rattle.deputy.specs.declared.asks.Asks.{Asks}
 use Rattle.deputy.specs.Rows.{HomeState, held_of, held_at, new_row, holding, counted, moved, is_fork_kind, is_fork, with_born}
 use Rattle.deputy.specs.Calls.{Turned, First, did, broke, fell, paused, broken_by, first_by, first_of, last_by, last_of, counted_rows, served_rows, answered, call_asks, pause_asks, held_turn, call_turn, fits_request, fits_call, may_ask, next_ready}
+use Rattle.deputy.specs.Moves.{landed_rows, told_turn, killed_in}
 use Rattle.deputy.specs.Rules.{CanWait, IsHome}
 
 -- ---- lists
@@ -91,22 +93,22 @@ held_others (Some n) p rows q call free h = by_place (cases_eq q p)
 -- ---- who lives
 
 -- what a step of p keeps: one more pid where it made a child, and whoever else lives
-record Keeps (k new : KernelState) (p : ℕ) (forked : Bool) : Type 0 where
-  count : given new ≡ given k + one_if forked
-  live : (q : ℕ) → q ≢ p → is_live k q ≡ true → is_live new q ≡ true
+pub record Keeps (k new : KernelState) (p : ℕ) (forked : Bool) : Type 0 where
+  pub count : given new ≡ given k + one_if forked
+  pub live : (q : ℕ) → q ≢ p → is_live k q ≡ true → is_live new q ≡ true
 
 past_dead : (tree : List Process) → live_at tree (length tree + 1) ≡ false
 past_dead tree =
     let e : length tree + 1 ≡ suc (length tree) = omega arith in
     let none : slice_get tree (length tree) ≡ None = slice_get_past tree (length tree) (omega arith) in
-    ap (live_at tree) e ∙ ap (λ o. Rattle.std.specs.Option.option_map_or is_live_process o false) none
+    ap (live_at tree) e ∙ ap (λ o. option_map_or is_live_process o false) none
 
 no_child : (k : KernelState) (q : ℕ) → is_live k q ≡ true → (given k + 1 == q) ≡ false
 no_child k q h = by_place (cases_eq q (given k + 1))
   where
     by_place : (q ≡ given k + 1) ⊎ (q ≢ given k + 1) → (given k + 1 == q) ≡ false
     by_place (inl e) = let dead : is_live k q ≡ false = ap (is_live k) e ∙ past_dead k.processes.tree in absurd (cc)
-    by_place (inr ne) = grind (arith, Rattle.std.proofs.lemmas.Bool.Decides.nat_tests)
+    by_place (inr ne) = grind (arith, nat_tests)
 
 kept_none : (k new : KernelState) (p : ℕ) (raised : Option ℕ) → LeavesOthers k new p None raised → Keeps k new p false
 kept_none k new p raised l = record {
@@ -128,11 +130,11 @@ kept_by Fork k new p raised l = record {
 called_keeps : (k : KernelState) (p : ℕ) (r : Request) (called : Called) → call_result k p r ≡ Some called → Keeps k called.kernel p (is_fork_kind called.answer.kind)
 called_keeps k p r called h = let l = call_leaves k p r called h in kept_by called.answer.kind k called.kernel p called.raised l.others
 
-KeepsFirst : KernelState → ℕ → Option First → Type 0
+pub KeepsFirst : KernelState → ℕ → Option First → Type 0
 KeepsFirst k p None = Unit {0}
 KeepsFirst k p (Some first) = Keeps k first.kernel p (is_fork first.answer)
 
-first_keeps : (k : KernelState) (p : ℕ) (r : Request) → KeepsFirst k p (first_of k p r)
+pub first_keeps : (k : KernelState) (p : ℕ) (r : Request) → KeepsFirst k p (first_of k p r)
 first_keeps k p r = by_number (r.number == 0)
   where
     by_signal : (o : Option ℕ) → KeepsFirst k p (broken_by o k)
@@ -237,3 +239,63 @@ pub paused_home : (h : HomeState) (settled : Bool) (from pid : ℕ) (room : Bool
 paused_home h settled from pid room t is fits e =
     subst (λ (x : Turned). IsHome x.home.kernel x.home.rows false) e
     (answered_home h.kernel h.rows settled (pause_asks from pid room) (paused h.kernel) is (kept_same h.kernel pid) (λ none. none_is (held_at h.rows pid) (both (is_live h.kernel pid) (is_none (held_at h.rows pid)) fits).1))
+
+-- ---- what is typed, raised, launched or told
+
+pub unsettled : (k : KernelState) (rows : List Row) (settled : Bool) → IsHome k rows settled → IsHome k rows false
+unsettled k rows settled h = record { each = h.each; held = h.held; rests = λ e. absurd (cc) }
+
+pub input_home : (k : KernelState) (input : Input) (rows : List Row) (settled : Bool) → IsHome k rows settled → IsHome (record k { input = input }) rows false
+input_home k input rows settled h = record {
+  each = h.each;
+  held = λ q call is. let w = h.held q call is in record { live = w.live; call = w.call; fits = w.fits };
+  rests = λ e. absurd (cc);
+}
+
+pub raised_home : (k : KernelState) (rows : List Row) (settled : Bool) (pid signal : ℕ) → IsHome k rows settled → IsHome (with_raised k pid signal) rows false
+raised_home k rows settled pid signal h = record {
+  each = h.each ∙ sym (given_raise k pid signal);
+  held = λ q call is. let w = h.held q call is in record { live = live_raise k pid signal q ∙ w.live; call = w.call; fits = w.fits };
+  rests = λ e. absurd (cc);
+}
+
+not_next : (k : KernelState) (q : ℕ) → is_live k q ≡ true → q ≢ given k + 1
+not_next k q h e = let dead : is_live k q ≡ false = ap (is_live k) e ∙ past_dead k.processes.tree in absurd (cc)
+
+pub launched_home : (k : KernelState) (rows : List Row) (settled : Bool) → IsHome k rows settled → IsHome (with_process k) (rows ++ new_row 0 ∷ []) false
+launched_home k rows settled h = record {
+  each = let a = length_push rows (new_row 0) in let b = h.each in let c = given_launch k in omega (arith, a, b, c);
+  held = λ q call is.
+      let w = h.held q call (held_born true 0 rows q call is) in
+      record { live = live_launch k q (not_next k q w.live) ∙ w.live; call = w.call; fits = w.fits };
+  rests = λ e. absurd (cc);
+}
+
+moved_holds : (place hops : ℕ) (o : Option Row) → held_of (option_map (moved place hops) o) ≡ held_of o
+moved_holds place hops None = refl
+moved_holds place hops (Some row) = refl
+
+held_moved : (rows : List Row) (pid place hops q : ℕ) → held_at (changed_pid (moved place hops) rows pid) q ≡ held_at rows q
+held_moved rows pid place hops q = by_place (cases_eq q pid)
+  where
+    by_place : (q ≡ pid) ⊎ (q ≢ pid) → held_at (changed_pid (moved place hops) rows pid) q ≡ held_at rows q
+    by_place (inl e) = ap (held_at (changed_pid (moved place hops) rows pid)) e ∙ (ap held_of (changed_here (moved place hops) rows pid) ∙ (moved_holds place hops (at_pid rows pid) ∙ ap (held_at rows) (sym e)))
+    by_place (inr ne) = ap held_of (changed_other (moved place hops) rows pid q ne)
+
+moved_home : (k : KernelState) (rows : List Row) (settled : Bool) (pid place hops : ℕ) → IsHome k rows settled → IsHome k (changed_pid (moved place hops) rows pid) false
+moved_home k rows settled pid place hops h = record {
+  each = length-changed (moved place hops) rows pid ∙ h.each;
+  held = λ q call is. h.held q call (sym (held_moved rows pid place hops q) ∙ is);
+  rests = λ e. absurd (cc);
+}
+
+pub told_home : (h : HomeState) (settled later : Bool) (at pid source hops : ℕ) (line : Option ℕ) (t : Turned) → IsHome h.kernel h.rows settled → told_turn later h at pid source hops line ≡ t
+    → IsHome t.home.kernel t.home.rows false
+told_home h settled later at pid source hops line t is e = subst (λ (x : Turned). IsHome x.home.kernel x.home.rows false) e (by_later later)
+  where
+    by_later : (b : Bool) → IsHome h.kernel (landed_rows b at pid hops h.rows) false
+    by_later true = moved_home h.kernel h.rows settled pid at hops is
+    by_later false = unsettled h.kernel h.rows settled is
+
+pub killed_home : (h : HomeState) (settled : Bool) (pid signal line : ℕ) (t : Turned) → IsHome h.kernel h.rows settled → killed_in h pid signal line ≡ t → IsHome t.home.kernel t.home.rows false
+killed_home h settled pid signal line t is e = subst (λ (x : Turned). IsHome x.home.kernel x.home.rows false) e (raised_home h.kernel h.rows settled pid signal is)

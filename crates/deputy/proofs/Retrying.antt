@@ -10,7 +10,7 @@ use Rattle.deputy.specs.declared.row.HeldCall.{HeldCall}
 use Rattle.deputy.specs.Rows.{HomeState, held_at, held_pids}
 use Rattle.deputy.specs.Calls.{First, fell, broken_by, first_by, first_of, call_asks, answered, can_go_on, goes_on, next_ready, Retried, nothing, retry_turn, retry_call, retry_by, retried_in}
 use Rattle.deputy.specs.Rules.{CanWait, IsHome}
-use Rattle.deputy.proofs.Keeping.{KeepsFirst, first_keeps, answered_home}
+use Rattle.deputy.proofs.Keeping.{KeepsFirst, first_keeps, answered_home, unsettled}
 
 -- what is found passes the test
 found : (test : ℕ → Bool) (xs : List ℕ) (x : ℕ) → find test xs ≡ Some x → test x ≡ true
@@ -30,9 +30,6 @@ can_wait k rows settled pid h = by_held (held_at rows pid) refl
     by_held : (o : Option HeldCall) → held_at rows pid ≡ o → MatchOption o (Unit {0}) (λ call. CanWait k pid call.request)
     by_held None e = tt
     by_held (Some call) e = h.held pid call e
-
-unsettled : (k : KernelState) (rows : List Row) (settled : Bool) → IsHome k rows settled → IsHome k rows false
-unsettled k rows settled h = record { each = h.each; held = h.held; rests = λ e. absurd (cc) }
 
 pub retried_home : (h : HomeState) (settled : Bool) (pid : ℕ) (t : Retried) → IsHome h.kernel h.rows settled → retry_call (held_at h.rows pid) h pid ≡ t → IsHome t.home.kernel t.home.rows false
 retried_home h settled pid t is e = subst (λ (x : Retried). IsHome x.home.kernel x.home.rows false) e (by_held (held_at h.rows pid))

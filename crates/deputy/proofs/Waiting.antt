@@ -1,11 +1,14 @@
 -- The pids whose calls wait, after a row was changed or added.
-use Rattle.std.proofs.Common.{◌≡◌, ℕ, zero, suc, ◌+◌, ◌<◌, ◌≤◌, cond, nat_le, Bool, true, false, List, [], ◌∷◌, ◌++◌, length, set, take, drop, Option, Some, None, slice_get, refl, ap, sym, ◌∙◌, arith, add-one}
+use Rattle.std.proofs.Common.{◌≡◌, ℕ, zero, suc, ◌+◌, ◌<◌, ◌≤◌, cond, nat_le, Bool, true, false, List, [], ◌∷◌, ◌++◌, length, set, take, drop, Option, Some, None, is_some, get_or, slice_get, refl, ap, sym, ◌∙◌, arith, add-one}
 use Rattle.std.specs.List.{insert, remove}
+use Rattle.std.specs.Option.{option_map}
+use Rattle.std.proofs.lemmas.Option.{slice_get-get_or}
 use Rattle.std.proofs.lemmas.Bool.{le-leb}
 use Rattle.std.proofs.lemmas.Bool.Decides.{nat_tests}
 use Rattle.deputy.specs.declared.row.Row.{Row}
 use Rattle.deputy.specs.declared.row.HeldCall.{HeldCall}
-use Rattle.deputy.specs.Rows.{new_row, held_one, held_from, held_pids, before}
+use Rattle.kernel_spec.specs.Pids.{at_pid, replaced_pid, changed_pid}
+use Rattle.deputy.specs.Rows.{held_of, held_at, new_row, holding, counted, moved, held_one, held_from, held_pids, before}
 
 above : (m n : ℕ) → n < m → nat_le m n ≡ false
 above m n h = grind (arith, nat_tests)
@@ -124,3 +127,68 @@ held_same (x ∷ xs) n (suc i) row new here is = ap (held_one n x.held) (held_sa
 pub held_push : (xs : List Row) (n place : ℕ) → held_from n (xs ++ new_row place ∷ []) ≡ held_from n xs
 held_push [] n place = refl
 held_push (x ∷ xs) n place = ap (held_one n x.held) (held_push xs (n + 1) place)
+
+-- ---- by pid
+
+-- a call of a process that was given waits
+pub hold_pids : (rows : List Row) (pid : ℕ) (call : HeldCall) → 1 ≤ pid → pid ≤ length rows → held_at rows pid ≡ None
+    → held_pids (changed_pid (holding call) rows pid) ≡ insert (held_pids rows) (before pid (held_pids rows)) pid
+hold_pids rows zero call low given free = absurd (omega (arith, low))
+hold_pids rows (suc i) call low given free = by_row (slice_get rows i) refl free
+  where
+    by_row : (o : Option Row) → slice_get rows i ≡ o → held_of o ≡ None
+        → held_pids (replaced_pid rows (suc i) (option_map (holding call) o)) ≡ insert (held_pids rows) (before (suc i) (held_pids rows)) (suc i)
+    by_row None here free =
+        let some : slice_get rows i ≡ Some (get_or rows i (new_row 0)) = slice_get-get_or rows i (new_row 0) (omega (arith, given)) in
+        absurd (cc)
+    by_row (Some row) here free = held_more rows 1 i (suc i) row (holding call row) call (omega arith) here free refl
+
+-- the call of a process waits no more
+pub count_pids : (rows : List Row) (pid : ℕ) → is_some (held_at rows pid) ≡ true
+    → held_pids (changed_pid counted rows pid) ≡ remove (held_pids rows) (before pid (held_pids rows))
+count_pids rows zero h = absurd (cc)
+count_pids rows (suc i) h = by_row (slice_get rows i) refl h
+  where
+    by_held : (row : Row) (o : Option HeldCall) → slice_get rows i ≡ Some row → row.held ≡ o → is_some o ≡ true
+        → held_pids (set rows i (counted row)) ≡ remove (held_pids rows) (before (suc i) (held_pids rows))
+    by_held row None here was h = absurd (cc)
+    by_held row (Some call) here was h = held_less rows 1 i (suc i) row (counted row) call (omega arith) here was refl
+    by_row : (o : Option Row) → slice_get rows i ≡ o → is_some (held_of o) ≡ true
+        → held_pids (replaced_pid rows (suc i) (option_map counted o)) ≡ remove (held_pids rows) (before (suc i) (held_pids rows))
+    by_row None here h = absurd (cc)
+    by_row (Some row) here h = by_held row row.held here refl h
+
+pub waiting_within : (rows : List Row) (pid : ℕ) → is_some (held_at rows pid) ≡ true → before pid (held_pids rows) < length (held_pids rows)
+waiting_within rows zero h = absurd (cc)
+waiting_within rows (suc i) h = by_row (slice_get rows i) refl h
+  where
+    by_held : (row : Row) (o : Option HeldCall) → slice_get rows i ≡ Some row → row.held ≡ o → is_some o ≡ true → before (suc i) (held_pids rows) < length (held_pids rows)
+    by_held row None here was h = absurd (cc)
+    by_held row (Some call) here was h = held_within rows 1 i (suc i) row call (omega arith) here was
+    by_row : (o : Option Row) → slice_get rows i ≡ o → is_some (held_of o) ≡ true → before (suc i) (held_pids rows) < length (held_pids rows)
+    by_row None here h = absurd (cc)
+    by_row (Some row) here h = by_held row row.held here refl h
+
+-- none of its waited
+pub count_free : (rows : List Row) (pid : ℕ) → is_some (held_at rows pid) ≡ false → held_pids (changed_pid counted rows pid) ≡ held_pids rows
+count_free rows zero h = refl
+count_free rows (suc i) h = by_row (slice_get rows i) refl h
+  where
+    none : (o : Option HeldCall) → is_some o ≡ false → None ≡ o
+    none None h = refl
+    none (Some call) h = absurd (cc)
+    by_row : (o : Option Row) → slice_get rows i ≡ o → is_some (held_of o) ≡ false → held_pids (replaced_pid rows (suc i) (option_map counted o)) ≡ held_pids rows
+    by_row None here h = refl
+    by_row (Some row) here h = held_same rows 1 i row (counted row) here (none row.held h)
+
+-- a landing leaves the calls as they are
+pub land_pids : (rows : List Row) (pid place hops : ℕ) → held_pids (changed_pid (moved place hops) rows pid) ≡ held_pids rows
+land_pids rows zero place hops = refl
+land_pids rows (suc i) place hops = by_row (slice_get rows i) refl
+  where
+    by_row : (o : Option Row) → slice_get rows i ≡ o → held_pids (replaced_pid rows (suc i) (option_map (moved place hops) o)) ≡ held_pids rows
+    by_row None here = refl
+    by_row (Some row) here = held_same rows 1 i row (moved place hops row) here refl
+
+pub push_pids : (rows : List Row) (place : ℕ) → held_pids (rows ++ new_row place ∷ []) ≡ held_pids rows
+push_pids rows place = held_push rows 1 place

@@ -1,5 +1,6 @@
 // The rows of all processes.
-ghost use Rattle.std.specs.Prelude.{◌≡◌, ◌≤◌, ◌++◌, ◌∷◌, [], Some, None, OnOk, OnErr, is_some, length, option_copied};
+ghost use Rattle.std.specs.Prelude.{◌≡◌, ◌≤◌, ◌<◌, ◌++◌, ◌∷◌, [], Some, None, OnOk, OnErr, is_some, length, option_copied};
+ghost use Rattle.std.specs.List.{insert, remove};
 ghost use Rattle.kernel_spec.specs.Pids.{at_pid, changed_pid};
 ghost use Rattle.deputy.specs.Rows.{new_row, holding, counted, moved, held_at, served_at, place_at, hops_at, held_pids, before};
 
@@ -50,6 +51,77 @@ fn before(pids: &[u32], pid: u32) -> usize
         }
     }
     pids.len()
+}
+
+/// One pid more among pids that rise. Want of memory changes nothing.
+fn put_in(pids: &mut Vec<u32>, pid: u32) -> Result<(), NoMemory>
+    ensures ok { OnOk result (pids.new.items ≡ insert pids.old.items (before pid pids.old.items) pid) }
+    ensures err { OnErr result (pids.new.items ≡ pids.old.items) }
+{
+    let at = before(pids, pid);
+    pids.insert(at, pid)?;
+    Ok(())
+}
+
+/// A pid less.
+fn take_out(pids: &mut Vec<u32>, pid: u32)
+    requires { before pid pids.old.items < length pids.old.items }
+    ensures { pids.new.items ≡ remove pids.old.items (before pid pids.old.items) }
+{
+    let at = before(pids, pid);
+    let _pid = pids.remove(at);
+}
+
+fn hold(row: &mut Row, call: HeldCall)
+    ensures { row.new ≡ holding call row.old }
+{
+    row.held = Some(call);
+}
+
+fn hold_at(list: &mut Vec<Row>, pid: u32, call: HeldCall)
+    ensures { list.new.items ≡ changed_pid (holding call) list.old.items pid }
+{
+    if pid == 0 || list.len() < pid as usize {
+        return;
+    }
+    hold(&mut list[pid as usize - 1], call);
+}
+
+/// One more call was served, and none waits. Whether one did.
+fn count(row: &mut Row) -> bool
+    ensures new { row.new ≡ counted row.old }
+    ensures had { result ≡ is_some row.old.held }
+{
+    let had = row.held.is_some();
+    row.served = row.served.saturating_add(1);
+    row.held = None;
+    had
+}
+
+fn count_at(list: &mut Vec<Row>, pid: u32) -> bool
+    ensures new { list.new.items ≡ changed_pid counted list.old.items pid }
+    ensures had { result ≡ is_some (held_at list.old.items pid) }
+{
+    if pid == 0 || list.len() < pid as usize {
+        return false;
+    }
+    count(&mut list[pid as usize - 1])
+}
+
+fn land(row: &mut Row, place: u8, hops: u32)
+    ensures { row.new ≡ moved place hops row.old }
+{
+    row.place = place;
+    row.hops = hops;
+}
+
+fn land_at(list: &mut Vec<Row>, pid: u32, place: u8, hops: u32)
+    ensures { list.new.items ≡ changed_pid (moved place hops) list.old.items pid }
+{
+    if pid == 0 || list.len() < pid as usize {
+        return;
+    }
+    land(&mut list[pid as usize - 1], place, hops);
 }
 
 impl Rows {
@@ -150,9 +222,8 @@ impl Rows {
         ensures ok { OnOk result (self.new.list ≡ changed_pid (holding call) self.old.list pid) }
         ensures err { OnErr result (self.new.list ≡ self.old.list) }
     {
-        let at = before(&self.waiting, pid);
-        self.waiting.insert(at, pid)?;
-        self.list[pid as usize - 1].held = Some(call);
+        put_in(&mut self.waiting, pid)?;
+        hold_at(&mut self.list, pid, call);
         Ok(())
     }
 
@@ -160,16 +231,8 @@ impl Rows {
     pub fn count(&mut self, pid: u32)
         ensures { self.new.list ≡ changed_pid counted self.old.list pid }
     {
-        if pid == 0 || self.list.len() < pid as usize {
-            return;
-        }
-        let row = &mut self.list[pid as usize - 1];
-        let had = row.held.is_some();
-        row.served = row.served.saturating_add(1);
-        row.held = None;
-        if had {
-            let at = before(&self.waiting, pid);
-            let _pid = self.waiting.remove(at);
+        if count_at(&mut self.list, pid) {
+            take_out(&mut self.waiting, pid);
         }
     }
 
@@ -177,11 +240,6 @@ impl Rows {
     pub fn land(&mut self, pid: u32, place: u8, hops: u32)
         ensures { self.new.list ≡ changed_pid (moved place hops) self.old.list pid }
     {
-        if pid == 0 || self.list.len() < pid as usize {
-            return;
-        }
-        let row = &mut self.list[pid as usize - 1];
-        row.place = place;
-        row.hops = hops;
+        land_at(&mut self.list, pid, place, hops);
     }
 }

@@ -291,7 +291,8 @@ pub fn serve_pause(
 pub fn next_ready(kernel: &Kernel, rows: &Rows) -> Option<u32>
     ensures { result ≡ next_ready (record { kernel = kernel.now; rows = rows.now.list }) }
 {
-    for pid in rows.waiting() {
+    let waiting = rows.waiting();
+    for pid in waiting {
         if goes_on(kernel, rows, *pid) {
             return Some(*pid);
         }
