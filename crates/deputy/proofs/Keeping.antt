@@ -19,12 +19,13 @@ use Rattle.kernel_spec.specs.Calls.{call_result}
 use Rattle.kernel_spec.specs.Others.{LeavesOthers, LeavesProcesses, is_at, child_after, counted as counted_pids}
 use Rattle.kernel_spec.proofs.PlaceLemmas.{changed_other, changed_here, at_push, at_last}
 use Rattle.kernel_spec.proofs.CallFacts.{end_leaves, call_leaves}
-use Rattle.kernel_spec.proofs.KernelFacts.{take_leaves, given_raise, live_raise, given_launch, live_launch}
+use Rattle.kernel_spec.proofs.KernelFacts.{none_at_zero, take_leaves, given_raise, live_raise, given_launch, live_launch}
+use Rattle.user_spec.specs.Fits.{fits_request}
 use Rattle.deputy.specs.declared.row.Row.{Row}
 use Rattle.deputy.specs.declared.row.HeldCall.{HeldCall}
 use Rattle.deputy.specs.declared.asks.Asks.{Asks}
 use Rattle.deputy.specs.Rows.{HomeState, held_of, held_at, new_row, holding, counted, moved, is_fork_kind, is_fork, with_born}
-use Rattle.deputy.specs.Calls.{Turned, First, did, broke, fell, paused, broken_by, first_by, first_of, last_by, last_of, counted_rows, served_rows, answered, call_asks, pause_asks, held_turn, call_turn, fits_request, fits_call, may_ask, next_ready}
+use Rattle.deputy.specs.Calls.{Turned, First, did, broke, fell, paused, broken_by, first_by, first_of, last_by, last_of, counted_rows, served_rows, answered, call_asks, pause_asks, held_turn, call_turn, fits_call, may_ask, next_ready}
 use Rattle.deputy.specs.Moves.{landed_rows, told_turn, killed_in}
 use Rattle.deputy.specs.Rules.{CanWait, IsHome}
 
@@ -299,3 +300,31 @@ told_home h settled later at pid source hops line t is e = subst (λ (x : Turned
 
 pub killed_home : (h : HomeState) (settled : Bool) (pid signal line : ℕ) (t : Turned) → IsHome h.kernel h.rows settled → killed_in h pid signal line ≡ t → IsHome t.home.kernel t.home.rows false
 killed_home h settled pid signal line t is e = subst (λ (x : Turned). IsHome x.home.kernel x.home.rows false) e (raised_home h.kernel h.rows settled pid signal is)
+
+-- ---- what a call that fits has
+
+pub record MayAsk (h : HomeState) (pid : ℕ) : Type 0 where
+  pub live : is_live h.kernel pid ≡ true
+  pub free : held_at h.rows pid ≡ None
+  pub low : 1 ≤ pid
+  pub given_is : pid ≤ given h.kernel
+
+live_low : (k : KernelState) (pid : ℕ) → is_live k pid ≡ true → 1 ≤ pid
+live_low k zero h = let none = none_at_zero k in absurd (cc)
+live_low k (suc i) h = omega arith
+
+live_given : (k : KernelState) (pid : ℕ) → is_live k pid ≡ true → pid ≤ given k
+live_given k zero h = omega arith
+live_given k (suc i) h = by_process (slice_get k.processes.tree i) refl h
+  where
+    by_process : (o : Option Process) → slice_get k.processes.tree i ≡ o → option_map_or is_live_process o false ≡ true → suc i ≤ given k
+    by_process None here h = absurd (cc)
+    by_process (Some p) here h = let within = slice_get_within k.processes.tree i p here in omega (arith, within)
+
+pub asks_with : (h : HomeState) (pid : ℕ) → may_ask h pid ≡ true → MayAsk h pid
+asks_with h pid e =
+    let parts = both (is_live h.kernel pid) (is_none (held_at h.rows pid)) e in
+    record { live = parts.0; free = none_is (held_at h.rows pid) parts.1; low = live_low h.kernel pid parts.0; given_is = live_given h.kernel pid parts.0 }
+
+pub calls_with : (h : HomeState) (pid : ℕ) (r : Request) → fits_call h pid r ≡ true → MayAsk h pid × (fits_request r ≡ true)
+calls_with h pid r e = let parts = both (may_ask h pid) (fits_request r) e in (asks_with h pid parts.0, parts.1)

@@ -13,14 +13,14 @@ use Rattle.deputy.specs.Rows.{held_of, held_at, new_row, holding, counted, moved
 above : (m n : ℕ) → n < m → nat_le m n ≡ false
 above m n h = grind (arith, nat_tests)
 
+none_by : (o : Option HeldCall) (m n : ℕ) (ws : List ℕ) → m ≤ n → before m ws ≡ 0 → before m (held_one n o ws) ≡ 0
+none_by None m n ws h rest = rest
+none_by (Some call) m n ws h rest = ap (λ b. cond b 0 (before m ws + 1)) (le-leb m n h)
+
 -- the pids from one on are not below it
 none_before : (m n : ℕ) (rows : List Row) → m ≤ n → before m (held_from n rows) ≡ 0
 none_before m n [] h = refl
-none_before m n (row ∷ rows) h = by_held row.held
-  where
-    by_held : (o : Option HeldCall) → before m (held_one n o (held_from (n + 1) rows)) ≡ 0
-    by_held None = none_before m (n + 1) rows (omega arith)
-    by_held (Some call) = ap (λ b. cond b 0 (before m (held_from (n + 1) rows) + 1)) (le-leb m n h)
+none_before m n (row ∷ rows) h = none_by row.held m n (held_from (n + 1) rows) h (none_before m (n + 1) rows (omega (arith, h)))
 
 insert_front : (w : ℕ) (ws : List ℕ) (k m : ℕ) → insert (w ∷ ws) (k + 1) m ≡ w ∷ insert ws k m
 insert_front w ws k m = rw add-one refl
@@ -43,6 +43,10 @@ same_some x y h = cc
 same_held : (x row : Row) (o : Option HeldCall) → Some x ≡ Some row → row.held ≡ o → x.held ≡ o
 same_held x row o e h = ap (λ (r : Row). r.held) (same_some x row e) ∙ h
 
+more_by : (o : Option HeldCall) (n m : ℕ) (ws us : List ℕ) → n < m → us ≡ insert ws (before m ws) m → held_one n o us ≡ insert (held_one n o ws) (before m (held_one n o ws)) m
+more_by None n m ws us below rest = rest
+more_by (Some held) n m ws us below rest = ap (λ vs. n ∷ vs) rest ∙ (sym (insert_front n ws (before m ws) m) ∙ ap (λ k. insert (n ∷ ws) k m) (sym (before_front m n ws below)))
+
 -- a call more waits
 pub held_more : (xs : List Row) (n i m : ℕ) (row new : Row) (call : HeldCall) → m ≡ n + i → slice_get xs i ≡ Some row → row.held ≡ None → new.held ≡ Some call
     → held_from n (set xs i new) ≡ insert (held_from n xs) (before m (held_from n xs)) m
@@ -53,20 +57,12 @@ held_more (x ∷ xs) n zero m row new call e here was is =
     let none : held_from n (x ∷ xs) ≡ ws = held_head n x None ws (same_held x row None here was) in
     let zero_before : before m ws ≡ 0 = none_before m (n + 1) xs (omega (arith, at)) in
     held_head n new (Some call) ws is ∙ (ap (λ k. k ∷ ws) (sym at) ∙ (ap (λ k. insert ws k m) (sym zero_before) ∙ ap (λ us. insert us (before m us) m) (sym none)))
-held_more (x ∷ xs) n (suc i) m row new call e here was is = by_held x.held
-  where
-    ws : List ℕ
-    ws = held_from (n + 1) xs
+held_more (x ∷ xs) n (suc i) m row new call e here was is =
+    more_by x.held n m (held_from (n + 1) xs) (held_from (n + 1) (set xs i new)) (omega (arith, e)) (held_more xs (n + 1) i m row new call (omega (arith, e)) here was is)
 
-    rest : held_from (n + 1) (set xs i new) ≡ insert ws (before m ws) m
-    rest = held_more xs (n + 1) i m row new call (omega (arith, e)) here was is
-
-    below : n < m
-    below = omega (arith, e)
-
-    by_held : (o : Option HeldCall) → held_one n o (held_from (n + 1) (set xs i new)) ≡ insert (held_one n o ws) (before m (held_one n o ws)) m
-    by_held None = rest
-    by_held (Some held) = ap (λ us. n ∷ us) rest ∙ (sym (insert_front n ws (before m ws) m) ∙ ap (λ k. insert (n ∷ ws) k m) (sym (before_front m n ws below)))
+less_by : (o : Option HeldCall) (n m : ℕ) (ws us : List ℕ) → n < m → us ≡ remove ws (before m ws) → held_one n o us ≡ remove (held_one n o ws) (before m (held_one n o ws))
+less_by None n m ws us below rest = rest
+less_by (Some held) n m ws us below rest = ap (λ vs. n ∷ vs) rest ∙ (sym (remove_front n ws (before m ws)) ∙ ap (remove (n ∷ ws)) (sym (before_front m n ws below)))
 
 -- a call waits no more
 pub held_less : (xs : List Row) (n i m : ℕ) (row new : Row) (call : HeldCall) → m ≡ n + i → slice_get xs i ≡ Some row → row.held ≡ Some call → new.held ≡ None
@@ -77,20 +73,12 @@ held_less (x ∷ xs) n zero m row new call e here was is =
     let one : held_from n (x ∷ xs) ≡ n ∷ ws = held_head n x (Some call) ws (same_held x row (Some call) here was) in
     let zero_before : before m (n ∷ ws) ≡ 0 = before_here m n ws (omega (arith, e)) in
     held_head n new None ws is ∙ (ap (remove (n ∷ ws)) (sym zero_before) ∙ ap (λ us. remove us (before m us)) (sym one))
-held_less (x ∷ xs) n (suc i) m row new call e here was is = by_held x.held
-  where
-    ws : List ℕ
-    ws = held_from (n + 1) xs
+held_less (x ∷ xs) n (suc i) m row new call e here was is =
+    less_by x.held n m (held_from (n + 1) xs) (held_from (n + 1) (set xs i new)) (omega (arith, e)) (held_less xs (n + 1) i m row new call (omega (arith, e)) here was is)
 
-    rest : held_from (n + 1) (set xs i new) ≡ remove ws (before m ws)
-    rest = held_less xs (n + 1) i m row new call (omega (arith, e)) here was is
-
-    below : n < m
-    below = omega (arith, e)
-
-    by_held : (o : Option HeldCall) → held_one n o (held_from (n + 1) (set xs i new)) ≡ remove (held_one n o ws) (before m (held_one n o ws))
-    by_held None = rest
-    by_held (Some held) = ap (λ us. n ∷ us) rest ∙ (sym (remove_front n ws (before m ws)) ∙ ap (remove (n ∷ ws)) (sym (before_front m n ws below)))
+within_by : (o : Option HeldCall) (n m : ℕ) (ws : List ℕ) → n < m → before m ws < length ws → before m (held_one n o ws) < length (held_one n o ws)
+within_by None n m ws below rest = rest
+within_by (Some held) n m ws below rest = let front = before_front m n ws below in omega (arith, front, rest)
 
 -- and it stands in the list
 pub held_within : (xs : List Row) (n i m : ℕ) (row : Row) (call : HeldCall) → m ≡ n + i → slice_get xs i ≡ Some row → row.held ≡ Some call
@@ -103,17 +91,8 @@ held_within (x ∷ xs) n zero m row call e here was =
     let first : before m (held_from n (x ∷ xs)) ≡ 0 = ap (before m) one ∙ zero_before in
     let len : length (held_from n (x ∷ xs)) ≡ suc (length ws) = ap (λ (us : List ℕ). length us) one in
     omega (arith, first, len)
-held_within (x ∷ xs) n (suc i) m row call e here was = by_held x.held
-  where
-    ws : List ℕ
-    ws = held_from (n + 1) xs
-
-    rest : before m ws < length ws
-    rest = held_within xs (n + 1) i m row call (omega (arith, e)) here was
-
-    by_held : (o : Option HeldCall) → before m (held_one n o ws) < length (held_one n o ws)
-    by_held None = rest
-    by_held (Some held) = let front = before_front m n ws (omega (arith, e)) in omega (arith, front, rest)
+held_within (x ∷ xs) n (suc i) m row call e here was =
+    within_by x.held n m (held_from (n + 1) xs) (omega (arith, e)) (held_within xs (n + 1) i m row call (omega (arith, e)) here was)
 
 -- a row whose call is as it was
 pub held_same : (xs : List Row) (n i : ℕ) (row new : Row) → slice_get xs i ≡ Some row → new.held ≡ row.held → held_from n (set xs i new) ≡ held_from n xs
@@ -153,6 +132,7 @@ count_pids rows (suc i) h = by_row (slice_get rows i) refl h
         → held_pids (set rows i (counted row)) ≡ remove (held_pids rows) (before (suc i) (held_pids rows))
     by_held row None here was h = absurd (cc)
     by_held row (Some call) here was h = held_less rows 1 i (suc i) row (counted row) call (omega arith) here was refl
+
     by_row : (o : Option Row) → slice_get rows i ≡ o → is_some (held_of o) ≡ true
         → held_pids (replaced_pid rows (suc i) (option_map counted o)) ≡ remove (held_pids rows) (before (suc i) (held_pids rows))
     by_row None here h = absurd (cc)
@@ -165,6 +145,7 @@ waiting_within rows (suc i) h = by_row (slice_get rows i) refl h
     by_held : (row : Row) (o : Option HeldCall) → slice_get rows i ≡ Some row → row.held ≡ o → is_some o ≡ true → before (suc i) (held_pids rows) < length (held_pids rows)
     by_held row None here was h = absurd (cc)
     by_held row (Some call) here was h = held_within rows 1 i (suc i) row call (omega arith) here was
+
     by_row : (o : Option Row) → slice_get rows i ≡ o → is_some (held_of o) ≡ true → before (suc i) (held_pids rows) < length (held_pids rows)
     by_row None here h = absurd (cc)
     by_row (Some row) here h = by_held row row.held here refl h
@@ -177,6 +158,7 @@ count_free rows (suc i) h = by_row (slice_get rows i) refl h
     none : (o : Option HeldCall) → is_some o ≡ false → None ≡ o
     none None h = refl
     none (Some call) h = absurd (cc)
+
     by_row : (o : Option Row) → slice_get rows i ≡ o → is_some (held_of o) ≡ false → held_pids (replaced_pid rows (suc i) (option_map counted o)) ≡ held_pids rows
     by_row None here h = refl
     by_row (Some row) here h = held_same rows 1 i row (counted row) here (none row.held h)

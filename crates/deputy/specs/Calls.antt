@@ -18,6 +18,7 @@ use Rattle.call_forward.specs.declared.message.Done.{Done}
 use Rattle.call_forward.specs.declared.message.Message.{Message}
 use Rattle.call_forward.specs.declared.message.Message.TheVariants as message
 use Rattle.call_forward.specs.declared.acted.Acted.{Acted}
+use Rattle.user_spec.specs.Fits.{fits_request}
 use Rattle.kernel_spec.specs.Kernel.{KernelState, Called, AfterTake, given, end_at, is_live, with_end, raised_by_end, deliverable, take_result, value_answer}
 use Rattle.kernel_spec.specs.Calls.{call_result}
 use Rattle.deputy.specs.declared.row.Row.{Row}
@@ -38,24 +39,11 @@ strange h = record { home = h; acted = record { what = what.Strange; mail = [] }
 
 -- ---- when a call or a pause fits
 
--- how many bytes a call hands over: those of a buffer that is read, but none for sigreturn
-abbrev pub read_len : Option Need → ℕ
-read_len None = 0
-read_len (Some need) = if need.right == RIGHT_READ then need.len else 0
-
-abbrev pub handed_len : ℕ → List ℕ → ℕ
-handed_len number args = if number == SIGRETURN then 0 else read_len (need_of number args 0)
-
--- a fault has the number 0 and its signal as the first argument; a call has a number that is forwarded, and its bytes
-abbrev pub fits_request : Request → Bool
-fits_request r =
-    if r.number == 0 then is_signal_number (slice_index r.args 0)
-    else (not (is_site_local r.number) && (length r.bytes == handed_len r.number r.args))
-
 -- the process is live, and no call of it waits
 abbrev pub may_ask : HomeState → ℕ → Bool
 may_ask h pid = is_live h.kernel pid && is_none (held_at h.rows pid)
 
+-- and the request is a fault, or a forwarded call with its bytes
 abbrev pub fits_call : HomeState → ℕ → Request → Bool
 fits_call h pid r = may_ask h pid && fits_request r
 

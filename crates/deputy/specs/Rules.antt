@@ -5,7 +5,8 @@ use Rattle.kernel_spec.specs.Kernel.{KernelState, given, is_live}
 use Rattle.deputy.specs.declared.row.Row.{Row}
 use Rattle.deputy.specs.declared.row.HeldCall.{HeldCall}
 use Rattle.deputy.specs.Rows.{held_at}
-use Rattle.deputy.specs.Calls.{fits_request, next_ready}
+use Rattle.user_spec.specs.Fits.{fits_request}
+use Rattle.deputy.specs.Calls.{next_ready}
 
 -- a call waits of a live process alone, and it is no fault
 pub record CanWait (k : KernelState) (pid : ℕ) (r : Request) : Type 0 where

@@ -1,8 +1,10 @@
 // The home side of all processes.
-ghost use Rattle.std.specs.Prelude.{◌≡◌, ◌^◌, ◌-◌, ◌≤◌, true, false, Some, None, IfOk, OnOk, OnErr, min, is_some, is_none};
-ghost use Rattle.kernel_spec.specs.Kernel.{fed};
+ghost use Rattle.std.specs.Prelude.{◌≡◌, ℕ, length, ◌^◌, ◌-◌, ◌≤◌, true, false, Some, None, IfOk, OnOk, OnErr, min, is_some, is_none};
+ghost use Rattle.kernel_spec.specs.Kernel.{fed, given};
 ghost use Rattle.deputy.specs.Rows.{no_home, held_at, served_at};
 ghost use Rattle.deputy.specs.Calls.{called_in, paused_in, retried_in, next_ready};
+ghost use Rattle.deputy.specs.declared.row.HeldCall.{HeldCall};
+ghost use Rattle.deputy.specs.Rules.{CanWait};
 ghost use Rattle.deputy.specs.Moves.{LaunchesAt, killed_in, went_in, landed_in, missed_in, closed_acted, held_number, home_suits, was_given};
 
 use crate::fitting::{fits_call, may_ask, was_given};
@@ -54,6 +56,7 @@ impl Deputies {
     /// One more process: its pid, None exactly where there is no room. It is believed at node 0. Want of memory changes nothing.
     pub fn launch(&mut self) -> Result<Option<u32>, NoMemory>
         ensures ok { IfOk result (λ pid. LaunchesAt pid self.old self.new) }
+        ensures each { length self.old.rows ≡ given self.old.kernel }
         ensures err { OnErr result (self.new ≡ self.old) }
     {
         self.rows.reserve()?;
@@ -75,6 +78,7 @@ impl Deputies {
         request: Request,
     ) -> Result<Acted, NoMemory>
         ensures ok { IfOk result (λ acted. called_in self.old from pid request ≡ record { home = self.new; acted = acted }) }
+        ensures each { length self.old.rows ≡ given self.old.kernel }
         ensures err { OnErr result (self.new ≡ self.old) }
     {
         if !fits_call(&self.kernel, &self.rows, pid, &request) {
@@ -95,6 +99,7 @@ impl Deputies {
         room: bool,
     ) -> Result<Acted, NoMemory>
         ensures ok { IfOk result (λ acted. paused_in self.old from pid room ≡ record { home = self.new; acted = acted }) }
+        ensures each { length self.old.rows ≡ given self.old.kernel }
         ensures err { OnErr result (self.new ≡ self.old) }
     {
         if !may_ask(&self.kernel, &self.rows, pid) {
@@ -110,6 +115,8 @@ impl Deputies {
     pub fn retry(&mut self, alloc: Global) -> Result<Option<Acted>, NoMemory>
         ensures ok { IfOk result (λ acted. retried_in self.old ≡ record { home = self.new; acted = acted }) }
         ensures some { IfOk result (λ acted. is_some acted ≡ is_some (next_ready self.old)) }
+        ensures each { length self.old.rows ≡ given self.old.kernel }
+        ensures held { (pid : ℕ) (call : HeldCall) → held_at self.old.rows pid ≡ Some call → CanWait self.old.kernel pid call.request }
         ensures err { OnErr result (self.new ≡ self.old) }
     {
         if self.settled {
@@ -125,7 +132,8 @@ impl Deputies {
 
     /// Whether a call that waits can go on: exactly where `retry` would serve one.
     pub fn due(&self) -> bool
-        ensures { result ≡ is_some (next_ready self.now) }
+        ensures is { result ≡ is_some (next_ready self.now) }
+        ensures each { length self.now.rows ≡ given self.now.kernel }
     {
         !self.settled && next_ready(&self.kernel, &self.rows).is_some()
     }
@@ -168,6 +176,7 @@ impl Deputies {
         line: Option<u32>,
     ) -> Result<Acted, NoMemory>
         ensures ok { IfOk result (λ acted. landed_in self.old at pid source hops line ≡ record { home = self.new; acted = acted }) }
+        ensures each { length self.old.rows ≡ given self.old.kernel }
         ensures err { OnErr result (self.new ≡ self.old) }
     {
         if !was_given(&self.kernel, pid) {
@@ -248,8 +257,10 @@ impl Deputies {
 
     /// Whether a pid was given.
     pub fn given(&self, pid: u32) -> bool
-        ensures { result ≡ was_given self.now.kernel pid }
+        ensures is { result ≡ was_given self.now.kernel pid }
+        ensures each { length self.now.rows ≡ given self.now.kernel }
     {
+        let _rows = &self.rows;
         was_given(&self.kernel, pid)
     }
 

@@ -1,6 +1,7 @@
 // Which calls, pauses and pids fit what home keeps.
 ghost use Rattle.std.specs.Prelude.{◌≡◌};
-ghost use Rattle.deputy.specs.Calls.{read_len, handed_len, fits_request, may_ask, fits_call};
+ghost use Rattle.user_spec.specs.Fits.{read_len, handed_len, fits_request};
+ghost use Rattle.deputy.specs.Calls.{may_ask, fits_call};
 ghost use Rattle.deputy.specs.Moves.{was_given};
 
 use crate::rows::Rows;

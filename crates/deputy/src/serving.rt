@@ -2,9 +2,10 @@
 ghost use Rattle.std.specs.Prelude.{◌≡◌, ◌≤◌, ◌<◌, ◌+◌, ◌++◌, ◌∷◌, [], Some, None, true, not, is_some, slice_index, MatchOption, length, IfOk, OnErr, vec_len, vec_capacity};
 ghost use Rattle.call_table.specs.Calls.{is_signal_number};
 ghost use Rattle.kernel_spec.specs.Kernel.{deliverable, end_at, is_live};
+ghost use Rattle.user_spec.specs.Fits.{fits_request};
 ghost use Rattle.home_kernel.specs.Serving.{IsLive};
 ghost use Rattle.deputy.specs.Rows.{held_at, is_fork, with_born};
-ghost use Rattle.deputy.specs.Calls.{fits_request, broken_by, fell, first_of, last_of, counted_rows, poke_mail, answered, value_in, call_asks, pause_asks, paused, call_turn, fits_call, goes_on, next_ready, retry_call};
+ghost use Rattle.deputy.specs.Calls.{broken_by, fell, first_of, last_of, counted_rows, poke_mail, answered, value_in, call_asks, pause_asks, paused, call_turn, fits_call, goes_on, next_ready, retry_call};
 ghost use Rattle.deputy.specs.Rules.{CanWait};
 ghost use Rattle.deputy.specs.Serving.{ComesTo, first_with, last_with};
 
