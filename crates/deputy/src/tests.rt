@@ -91,7 +91,7 @@ const ON_10: [u32; 3] = [10, 0x2_0000, 0x2_0004];
 
 const ON_17: [u32; 3] = [17, 0x2_0000, 0x2_0004];
 
-/// No message, or a reply alone.
+/// No message.
 const NONE: [Post; 3] = [No, No, No];
 
 /// A request whose write hands over two bytes.
@@ -491,5 +491,10 @@ const POKES: [Row; 11] = [
 fn pokes(rt: HostRuntime) -> Result<(), Fail> {
     let alloc = rt.alloc();
     let mut home = home(&rt, alloc, 2)?;
-    check(&rt, &mut home, alloc, &POKES)
+    check(&rt, &mut home, alloc, &POKES)?;
+    to_another_thread(home);
+    Ok(())
 }
+
+/// Takes what may cross threads.
+fn to_another_thread<T: Send + Drop>(_value: T) {}
