@@ -3,3 +3,4 @@ pub mod User
 pub mod Instruction
 pub mod Request
 pub mod Advance
+pub mod Fits
