@@ -7,4 +7,4 @@ pub mod Fitting
 pub mod Calls
 pub mod Sound
 pub mod Policies
-pub mod Laws
+pub mod Lawful

@@ -274,6 +274,10 @@ no_fault n e = go (n == 0) refl
     go true h = let z : n ≡ 0 = grind (arith, nat_tests) in (let y : true ≡ false = ap is_site_local (sym z) ∙ e in absurd cc)
     go false h = refl
 
+-- at a call there is one
+pub call_number : (u : UserState) → advance u ≡ AtCall → (number_of u == 0) ≡ false
+call_number u e = no_fault (number_of u) (local_parts (is_site_local (number_of u)) (has_buffer u) (not_local u e)).0
+
 both : (a b : Bool) → a ≡ false → b ≡ true → (not a && b) ≡ true
 both true b e f = absurd cc
 both false b e f = f
