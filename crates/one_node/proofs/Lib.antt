@@ -1,6 +1,7 @@
-pub mod Quanta
-pub mod Built
 pub mod Lives
+pub mod Faults
+pub mod Quanta
+pub mod Children
 pub mod Applies
 pub mod Plays
 pub mod Statuses

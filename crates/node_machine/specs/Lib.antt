@@ -1,0 +1,4 @@
+pub mod Plan
+pub mod Machine
+pub mod Policy
+pub mod Laws
