@@ -33,7 +33,11 @@ fn programs_to_their_ends(rt: HostRuntime) -> Result<(), Fail> {
 
 /// Process 1 made 64 children, of which each exits with 0.
 fn ended(pid: u32) -> PidState {
-    if pid == 1 { PidState::Exit(64) } else { PidState::Exit(0) }
+    if pid == 1 {
+        PidState::Exit(64)
+    } else {
+        PidState::Exit(0)
+    }
 }
 
 /// The 64th fork fails, and after one wait there is a process of pid 65.

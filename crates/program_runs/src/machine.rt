@@ -104,7 +104,9 @@ pub fn steps(alloc: Global, setup: &Setup, outside: &[Step]) -> Result<Vec<Step>
     let mut done = 0;
     for _i in 0..MOST {
         let next = lowest(alloc, &home)?;
-        let step = if next.is_none() || (turns(&next) && !matches!(steps.last(), Some(Step::Raise { .. }))) {
+        let step = if next.is_none()
+            || (turns(&next) && !matches!(steps.last(), Some(Step::Raise { .. })))
+        {
             let Some(step) = outside.get(done) else {
                 return Ok(steps);
             };

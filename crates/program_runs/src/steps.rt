@@ -11,6 +11,7 @@ use std::test::Fail;
 const START: Step = Step::Launch(0);
 /// Up to its read.
 const GOES: Step = Step::Steps { pid: 1, k: 8 };
+
 const KILLED: Step = Step::Raise { pid: 1, signal: 9 };
 
 /// Steps, and the first that is not enabled.
@@ -30,7 +31,17 @@ const NOT_ENABLED: [(&[Step], u32); 16] = [
     (&[START, GOES, Step::Fall(1)], 2),
     (&[START, GOES, Step::Eof, KILLED, Step::Break(1)], 4),
     (&[START, GOES, KILLED, Step::Take(1), Step::Do(1)], 4),
-    (&[START, GOES, KILLED, Step::Break(1), Step::Take(1), Step::Take(1)], 5),
+    (
+        &[
+            START,
+            GOES,
+            KILLED,
+            Step::Break(1),
+            Step::Take(1),
+            Step::Take(1),
+        ],
+        5,
+    ),
 ];
 
 fn are_not_enabled(rt: &impl Abort, alloc: Global, setup: &Setup, rows: &[(&[Step], u32)]) {
