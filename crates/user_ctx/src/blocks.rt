@@ -102,10 +102,11 @@ fn is_in_page(addr: u32, width: u32) -> bool
     addr % 4096 + width <= 4096
 }
 
-/// One ready instruction, at a place of the page, where words of pages from `low` up to `end` are ready.
+/// One ready instruction, at a place of the page, where words of pages from `low` up to `end` are ready. Each loop has its
+/// own: LLVM takes it into a loop only where nothing else calls it.
 #[inline(always)]
 #[tactic(auto, using(crate::proofs::Stored::same_words))]
-fn step_ready(
+fn step_ready<const IS_SHORT: bool>(
     window: &Window,
     low: u32,
     end: u32,
@@ -256,7 +257,7 @@ fn run_long(
     let mut end = at + n as usize;
     loop {
         let here = at;
-        match step_ready(window, low, high, &mut at, x, pages) {
+        match step_ready::<false>(window, low, high, &mut at, x, pages) {
             Gone::Next => at = same_place(at),
             Gone::Jumped => {
                 let left = end - here - 1;
@@ -321,7 +322,7 @@ fn run_short(
         None => return (0, Gone::Left),
     };
     for i in 0..n {
-        match step_ready(window, windows.low, windows.end, &mut at, x, pages) {
+        match step_ready::<true>(window, windows.low, windows.end, &mut at, x, pages) {
             Gone::Next => at = same_place(at),
             Gone::Jumped => {}
             Gone::Away(to) => {
