@@ -58,11 +58,12 @@ same_given (Some d) c n g e h =
 called_keeps : (m : MachineState) (pid : ℕ) (u : UserState) (r : Request) (o : Option Called) → call_result m.kernel pid r ≡ o → (r.number == FORK) ≡ false → Keeps (option_map (with_answer m pid u r) o) (given m.kernel) (length m.users)
 called_keeps m pid u r None e other = tt
 called_keeps m pid u r (Some c) e other =
-    let none = none_without m.kernel pid r c other e in
-    (same_given (call_result m.kernel pid r) c (given m.kernel) (call_gives m.kernel pid r) e none,
-    ap (λ ys. length (set_pid m.users pid (returned u c.answer) ++ ys)) (no_children c.answer.kind u (given c.kernel) none)
-    ∙ ap (λ (ys : List UserState). length ys) (append-nil (set_pid m.users pid (returned u c.answer)))
-    ∙ length-set_pid m.users pid (returned u c.answer))
+    let none = none_without m.kernel pid r c other e in (
+      same_given (call_result m.kernel pid r) c (given m.kernel) (call_gives m.kernel pid r) e none,
+      ap (λ ys. length (set_pid m.users pid (returned u c.answer) ++ ys)) (no_children c.answer.kind u (given c.kernel) none)
+          ∙ ap (λ (ys : List UserState). length ys) (append-nil (set_pid m.users pid (returned u c.answer)))
+          ∙ length-set_pid m.users pid (returned u c.answer),
+    )
 
 asked_keeps : (m : MachineState) (pid number : ℕ) (u : UserState) (o : Option Request) → asked_of u ≡ o → asked_number (request_of u) ≡ Some number → is_built number ≡ true → Keeps (done_at m pid u o) (given m.kernel) (length m.users)
 asked_keeps m pid number u None e told built = tt

@@ -19,12 +19,12 @@ use Rattle.kernel_spec.specs.Calls.{call_result, broken}
 use Rattle.user_ctx.specs.Calling.{AsksCall}
 use Rattle.home_kernel.specs.Serving.{IsLive}
 use Rattle.one_node.specs.Machine.{MachineState, live_user, asked_by, asked_of, reply_of, children, with_answer, done_of, done_at, blocks, broken_of, broken_at, user_taking, with_taken, taken_of, has_room_at, fault_of, with_fall, fallen, value_in, value_gained, blocked_at, Moves}
-use Rattle.one_node.specs.Going.{copied_for, child_in}
+use Rattle.one_node.specs.Going.{copied_for, HasChild, child_in}
 use Rattle.one_node.specs.Applying.{raised_in_call, raised_by_asked, raised_by_call, raised_in_take, raised_by_taken, raised_by_take, AppliedAs}
 use Rattle.one_node.specs.declared.home.Applied.{Applied}
 use Rattle.one_node.specs.declared.home.Applied.TheVariants.{Not, Did}
 use Rattle.one_node.proofs.Lives.{state_of, user_here, dead, set_at, live_low}
-use Rattle.one_node.proofs.Children.{child_is}
+use Rattle.one_node.proofs.Children.{has_child, child_is}
 
 same_some : {A : Type 0} (x y : A) → ◌≡◌ {A = Option A} (Some x) (Some y) → x ≡ y
 same_some x y h = cc
@@ -133,6 +133,19 @@ serves_in k after us us1 rs m n pid i newest r a raised child applied is asked a
     sym (ap (raised_by_asked m.kernel pid) asked ∙ ap (λ y. raised_in_call (call_result y pid r)) (sym kernel) ∙ ap raised_in_call called) in
     applied_reply m n (done_of m pid (live_user m pid)) raised (raised_by_call m pid) (reply_of pid r a) applied told made at_other
     (ap (λ (y : MachineState). y.replies) new ∙ ap (λ (y : MachineState). y.replies ++ reply_of pid r a ∷ []) is)
+
+-- where the call makes a child its copy is there
+pub child_here : (k : KernelState) (us : List UserState) (rs : List Reply3) (m : MachineState) (pid i : ℕ) (r : Request) (c : Called) (child : Option UserState) → state_of k us rs ≡ m
+    → option_and_then asked_of (live_user m pid) ≡ Some r → i ≡ pid - 1 → call_result k pid r ≡ Some c → option_and_then (copied_for r.number) (slice_get us i) ≡ child → HasChild c.answer.kind child
+child_here k us rs m pid i r c child is asked at called copy =
+    let kernel : k ≡ m.kernel = ap (λ (y : MachineState). y.kernel) is in
+    let live : IsLive k pid = ap (λ y. is_live y pid) kernel ∙ asked_lives m pid r asked in
+    let here = user_here k us rs m pid i is (live_low k pid live) live at in
+    child_on k pid r c child (slice_get us i) (ap (option_and_then asked_of) (sym here) ∙ asked) called copy
+  where
+    child_on : (k : KernelState) (pid : ℕ) (r : Request) (c : Called) (child o : Option UserState) → option_and_then asked_of o ≡ Some r → call_result k pid r ≡ Some c → option_and_then (copied_for r.number) o ≡ child → HasChild c.answer.kind child
+    child_on k pid r c child None asked called copy = absurd (none-some r asked)
+    child_on k pid r c child (Some u) asked called copy = subst (HasChild c.answer.kind) copy (has_child k pid r c u called)
 
 done_none : (m : MachineState) (pid : ℕ) (o : Option UserState) → option_and_then asked_of o ≡ None → done_of m pid o ≡ None
 done_none m pid None h = refl

@@ -65,18 +65,31 @@ impl Model for Home {
     ghost invariant = { λ h. vec_len h.users ≡ given h.kernel };
 }
 
-/// A step that was made: the process at which it raised a signal, and its reply.
-fn did(raised: Option<u32>, reply: Option<i32>) -> Applied
-    ensures { result ≡ Applied.Did raised reply }
+/// A step that was made and gained no reply.
+fn did(raised: Option<u32>) -> Applied
+    ensures { result ≡ Applied.Did raised None }
 {
-    Applied::Did { raised, reply }
+    Applied::Did {
+        raised,
+        reply: None,
+    }
+}
+
+/// A step that was made and gained a reply.
+fn did_reply(raised: Option<u32>, answer: &Answer) -> Applied
+    ensures { result ≡ Applied.Did raised (Some answer.now.value) }
+{
+    Applied::Did {
+        raised,
+        reply: Some(answer.value),
+    }
 }
 
 /// A step that raised no signal and gained no reply, where it was made.
 fn applied_if(went: bool) -> Applied
     ensures { result ≡ (if went then Applied.Did None None else Applied.Not) }
 {
-    if went { did(None, None) } else { Applied::Not }
+    if went { did(None) } else { Applied::Not }
 }
 
 /// What is kept of a served call.
@@ -129,7 +142,7 @@ impl Home {
         }
         let raised = self.kernel.heeding(pid, signal);
         self.kernel.raise(pid, signal);
-        did(raised, None)
+        did(raised)
     }
 
     /// More is typed, where the setup has it.
@@ -149,7 +162,7 @@ impl Home {
         ensures { AppliedAs result (Some (with_eof self.old)) None self.old self.new }
     {
         self.kernel.end_input();
-        did(None, None)
+        did(None)
     }
 
     /// So many steps of a live process, if each of them goes.
@@ -205,7 +218,7 @@ impl Home {
                 give_at(&mut self.users, i, &answer);
                 push_child(&mut self.users, child, answer.kind, newest);
                 self.replies.push_reserved(reply_of(pid, &request, &answer));
-                Ok(did(raised, Some(answer.value)))
+                Ok(did_reply(raised, &answer))
             }
         }
     }
@@ -227,7 +240,7 @@ impl Home {
         let answer = self.kernel.break_call(alloc, pid, &request);
         give_at(&mut self.users, pid as usize - 1, &answer);
         self.replies.push_reserved(reply_of(pid, &request, &answer));
-        Ok(did(None, Some(answer.value)))
+        Ok(did_reply(None, &answer))
     }
 
     /// A process takes its lowest signal, where it can take one.
@@ -240,11 +253,13 @@ impl Home {
         let i = pid as usize - 1;
         let room = room_at(self.users.as_slice(), i);
         let took = self.kernel.take(pid, room);
-        let Some(taken) = took.taken else {
-            return Applied::Not;
-        };
-        enter_at(&mut self.users, i, taken);
-        did(took.raised, None)
+        match took.taken {
+            None => Applied::Not,
+            Some(taken) => {
+                enter_at(&mut self.users, i, taken);
+                did(took.raised)
+            }
+        }
     }
 
     /// Ends a process by the fault that it is at.
@@ -254,11 +269,13 @@ impl Home {
         if !live(&self.kernel, pid) {
             return Applied::Not;
         }
-        let Some(signal) = fault_at(&mut self.users, pid as usize - 1) else {
-            return Applied::Not;
-        };
-        let raised = self.kernel.fall(pid, signal);
-        did(raised, None)
+        match fault_at(&mut self.users, pid as usize - 1) {
+            None => Applied::Not,
+            Some(signal) => {
+                let raised = self.kernel.fall(pid, signal);
+                did(raised)
+            }
+        }
     }
 
     /// One step, where its condition holds. Nothing is said of the system after `Not`, or after want of memory.
