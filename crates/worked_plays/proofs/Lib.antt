@@ -1,3 +1,4 @@
 pub mod Small
 pub mod Plays
 pub mod Worked
+pub mod Plans

@@ -14,7 +14,7 @@ use Rattle.run_laws.specs.Ends.{live_state, blocked_by, blocked_number}
 use Rattle.run_laws.specs.Histories.{read}
 use Rattle.node_machine.specs.Machine.{machine, serve_at}
 use Rattle.node_machine.specs.Policy.{never}
-use Rattle.worked_plays.specs.Programs.{Small, user_of, Shown, shown_by, Shows, plan_of, hello, hello_script, hello_plan, hello_events, hello_shown, forker, forker_script, forker_plan, forker_events, forker_shown, intr, intr_script, intr_plan, intr_events, intr_shown, both, both_plan, both_events, both_shown}
+use Rattle.worked_plays.specs.Programs.{Small, user_of, Shown, shown_by, Shows, plan_of, hello, hello_script, hello_plan, hello_events, hello_shown, forker, forker_script, forker_plan, forker_events, forker_shown, intr, intr_script, intr_plan, intr_events, intr_shown, both, both_plan, both_events, both_shown, parent, parent_plan, parent_events, parent_shown, killed_script, killed_plan, killed_events, killed_shown}
 use Rattle.worked_plays.proofs.Small.{asks_at, at_call}
 use Rattle.worked_plays.proofs.Plays.{SmallState, big, nothing, small_steps, plays}
 
@@ -35,6 +35,14 @@ forker_shows = shows_by forker_script forker forker_events _ forker_shown refl r
 pub intr_shows : Shows intr_plan intr_events intr_shown
 unfolding Rattle.kernel_spec.specs.Calls.call_row Rattle.kernel_spec.specs.Io.closed_from Rattle.kernel_spec.specs.Io.descriptor_count
 intr_shows = shows_by intr_script intr intr_events _ intr_shown refl refl
+
+pub parent_shows : Shows parent_plan parent_events parent_shown
+unfolding Rattle.kernel_spec.specs.Calls.call_row Rattle.kernel_spec.specs.Io.closed_from Rattle.kernel_spec.specs.Io.descriptor_count
+parent_shows = shows_by hello_script parent parent_events _ parent_shown refl refl
+
+pub killed_shows : Shows killed_plan killed_events killed_shown
+unfolding Rattle.kernel_spec.specs.Calls.call_row Rattle.kernel_spec.specs.Io.closed_from Rattle.kernel_spec.specs.Io.descriptor_count
+killed_shows = shows_by killed_script hello killed_events _ killed_shown refl refl
 
 -- ---- both
 

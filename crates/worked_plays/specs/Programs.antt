@@ -282,3 +282,78 @@ both_shown = record {
   statuses = (1, state.Blocked 8) ∷ (2, state.Blocked 8) ∷ [];
   replies = reply 1 4 (pos 2) ∷ reply 1 11 (pos 0) ∷ [];
 }
+
+-- ---- a parent that heeds the end of its child
+
+-- `li a0, 17|la a1, h|la a2, k|sys 15|sys 4|beq a0, x0, c|li a0, 0|sys 5|li a0, 0|sys 1|c: li a0, 3|sys 1|h: li a0, 1|la a1, d|li a2, 1|sys 9|ret|k: sys 16|d: .ascii "c"`:
+-- it forks and waits, and its handler of 17 writes `c`
+abbrev pub parent_image : List ℕ
+parent_image =
+    55 ∷ 5 ∷ 0 ∷ 0 ∷ 19 ∷ 5 ∷ 21 ∷ 1 ∷ 183 ∷ 5 ∷ 1 ∷ 0 ∷ 147 ∷ 133 ∷ 5 ∷ 7 ∷ 55 ∷ 6 ∷ 1 ∷ 0 ∷ 19 ∷ 6 ∷ 134 ∷ 9 ∷ 183 ∷ 8 ∷ 0 ∷ 0 ∷ 147 ∷ 136 ∷ 248 ∷
+    0 ∷ 115 ∷ 0 ∷ 0 ∷ 0 ∷ 183 ∷ 8 ∷ 0 ∷ 0 ∷ 147 ∷ 136 ∷ 72 ∷ 0 ∷ 115 ∷ 0 ∷ 0 ∷ 0 ∷ 99 ∷ 6 ∷ 5 ∷ 2 ∷ 55 ∷ 5 ∷ 0 ∷ 0 ∷ 19 ∷ 5 ∷ 5 ∷ 0 ∷ 183 ∷ 8 ∷ 0 ∷
+    0 ∷ 147 ∷ 136 ∷ 88 ∷ 0 ∷ 115 ∷ 0 ∷ 0 ∷ 0 ∷ 55 ∷ 5 ∷ 0 ∷ 0 ∷ 19 ∷ 5 ∷ 5 ∷ 0 ∷ 183 ∷ 8 ∷ 0 ∷ 0 ∷ 147 ∷ 136 ∷ 24 ∷ 0 ∷ 115 ∷ 0 ∷ 0 ∷ 0 ∷ 55 ∷ 5 ∷
+    0 ∷ 0 ∷ 19 ∷ 5 ∷ 53 ∷ 0 ∷ 183 ∷ 8 ∷ 0 ∷ 0 ∷ 147 ∷ 136 ∷ 24 ∷ 0 ∷ 115 ∷ 0 ∷ 0 ∷ 0 ∷ 55 ∷ 5 ∷ 0 ∷ 0 ∷ 19 ∷ 5 ∷ 21 ∷ 0 ∷ 183 ∷ 5 ∷ 1 ∷ 0 ∷ 147 ∷
+    133 ∷ 69 ∷ 10 ∷ 55 ∷ 6 ∷ 0 ∷ 0 ∷ 19 ∷ 6 ∷ 22 ∷ 0 ∷ 183 ∷ 8 ∷ 0 ∷ 0 ∷ 147 ∷ 136 ∷ 152 ∷ 0 ∷ 115 ∷ 0 ∷ 0 ∷ 0 ∷ 103 ∷ 128 ∷ 0 ∷ 0 ∷ 183 ∷ 8 ∷ 0 ∷
+    0 ∷ 147 ∷ 136 ∷ 8 ∷ 1 ∷ 115 ∷ 0 ∷ 0 ∷ 0 ∷ 99 ∷ []
+
+abbrev pub parent : Small
+parent = started 2147479712 parent_image (replicate 160 0)
+
+abbrev pub parent_plan : Plan
+parent_plan = plan_of hello_script parent
+
+-- the child's exit raises 17 at its parent, which takes it after its wait
+abbrev pub parent_events : List Event
+parent_events =
+    at 1 0 (what.Command 1 (Some 1) None None)
+    ∷ at 2 0 (what.Steps 1 8)
+    ∷ asked 3 1 15 (pos 0) (
+    at 6 0 (what.Steps 1 2)
+    ∷ at 7 0 (what.Sent 1 4)
+    ∷ at 8 0 (what.Served 1 way.Did (Some 4) (Some (pos 2)) None None false None None)
+    ∷ at 9 0 (what.Got 1 (Some 2) false None None)
+    ∷ at 10 0 (what.Steps 1 5)
+    ∷ at 11 0 (what.Sent 1 5)
+    ∷ at 12 0 (what.Held 1 5)
+    ∷ at 13 0 (what.Steps 2 5)
+    ∷ exits 14 2 3 (
+    at 17 0 (what.Served 1 way.Did (Some 5) (Some (pos 2)) (Some 17) None false None None)
+    ∷ at 18 0 (what.Got 1 None false None None)
+    ∷ at 19 0 (what.Steps 1 8)
+    ∷ asked 20 1 9 (pos 1) (
+    at 23 0 (what.Steps 1 3)
+    ∷ asked 24 1 16 (pos 0) (
+    at 27 0 (what.Steps 1 4)
+    ∷ exits 28 1 0 []))))
+
+abbrev pub parent_shown : Shown
+parent_shown = record {
+  terminal = 99 ∷ [];
+  typed = [];
+  statuses = (1, state.Exit 0) ∷ (2, state.Exit 3) ∷ [];
+  replies = reply 1 1 (pos 0) ∷ reply 1 16 (pos 0) ∷ reply 1 9 (pos 1) ∷ reply 1 5 (pos 2) ∷ reply 2 1 (pos 0) ∷ reply 1 4 (pos 2) ∷ reply 1 15 (pos 0) ∷ [];
+}
+
+-- ---- two signals
+
+abbrev pub killed_script : List ScriptLine
+killed_script = line 1 (order.Run []) ∷ line 2 (order.Kill 1 15) ∷ line 3 (order.Kill 1 10) ∷ []
+
+abbrev pub killed_plan : Plan
+killed_plan = plan_of killed_script hello
+
+-- of two pending signals the lower one is taken
+abbrev pub killed_events : List Event
+killed_events =
+    at 1 0 (what.Command 1 (Some 1) None None)
+    ∷ at 2 0 (what.Command 2 None None (Some 1))
+    ∷ at 3 0 (what.Command 3 None None (Some 1))
+    ∷ at 4 0 (what.Poked 1 true)
+    ∷ at 5 0 (what.Poked 1 true)
+    ∷ at 6 0 (what.Heed 1)
+    ∷ at 7 0 (what.Served 1 way.Paused None None (Some 10) (Some (end.Signal 10)) false None None)
+    ∷ at 8 0 (what.Got 1 None true None None)
+    ∷ []
+
+abbrev pub killed_shown : Shown
+killed_shown = record { terminal = []; typed = []; statuses = (1, state.Signal 10) ∷ []; replies = [] }

@@ -1,4 +1,4 @@
-use Rattle.worked_plays.proofs.Worked.{hello_shows, forker_shows, intr_shows, both_shows}
+use Rattle.worked_plays.proofs.Worked.{hello_shows, forker_shows, intr_shows, both_shows, parent_shows, killed_shows}
 use Rattle.worked_plays.proofs.worked_programs.Goals as goal
 
 pub returns-clause-hello : goal.returns-clause-hello
@@ -12,3 +12,9 @@ returns-clause-intr c = intr_shows
 
 pub returns-clause-both : goal.returns-clause-both
 returns-clause-both c = both_shows
+
+pub returns-clause-parent : goal.returns-clause-parent
+returns-clause-parent c = parent_shows
+
+pub returns-clause-killed : goal.returns-clause-killed
+returns-clause-killed c = killed_shows
