@@ -5,7 +5,7 @@ ghost use Rattle.kernel_spec.specs.Kernel.{value_answer};
 ghost use Rattle.kernel_spec.specs.Processes.{status_number, status_bytes};
 ghost use Rattle.kernel_spec.specs.Calls.{bytes_answer, fork_answer};
 
-use call_table::limit::TRANSFER_BYTES;
+use call_table::limit::{LAST_LAUNCHED, TRANSFER_BYTES};
 use call_table::{Answer, Bytes, End, Kind, NoMemory};
 use std::alloc::Global;
 
@@ -43,7 +43,7 @@ pub fn bytes_answer(bytes: Bytes) -> Answer
 
 /// The answer of a fork: the pid of the child.
 pub fn fork_answer(alloc: Global, child: u32) -> Answer
-    requires { child ≤ 32767 }
+    requires { child ≤ LAST_LAUNCHED }
     ensures { result ≡ fork_answer child }
 {
     Answer {
