@@ -22,7 +22,7 @@ use Rattle.mosix_shell.specs.Why.{line_of, has_run, why_of_last, cuts_short}
 use Rattle.mosix_shell.specs.Writing.{WritesAll, WritesFront, WritesSome, WritesLine}
 use Rattle.mosix_shell.specs.Orders.{IsScriptOf, IsFaultOf, IsUnread}
 use Rattle.mosix_shell.specs.Images.{Refusal, RunLine, runs_of, images_of, AreImagesOf, IsRefused}
-use Rattle.mosix_shell.specs.Stage.{is_built, IsRun}
+use Rattle.mosix_shell.specs.Stage.{is_built_run, IsRun}
 use Rattle.mosix_shell.specs.Causes.{AreAccepted, HasRefused, IsUnbuilt, CauseOf, Verdict, IsFaulty, HasBadImage, IsNotBuilt, Runs, verdict_on_users, verdict_on_script, verdict_of, Follows, IsComplete}
 use Rattle.mosix_shell.specs.Answers.{IsRunOf, IsReported, TellsRun, IsPartlyTold, WritesAnswer, TellsNone, Tells, RunAnswers, AsmAnswers, Refuses, AnswersIn, Answers}
 use Rattle.mosix_shell.specs.Parts.{IsRunFrom, IsUnbuiltFrom, IsUnrun, IsTold, IsPartOf, RefusesOrders, TellsOrders}
@@ -119,10 +119,10 @@ module _ (settings : Settings) (script : Option (List ℕ)) (files : Option (Lis
       → verdict_of settings s fs ≡ verdict_on_users settings orders r
   verdict_at orders r s fs o i e f = ap (verdict_on_script settings fs) (read_as settings.nodes script orders s o e) ∙ ap (verdict_on_users settings orders) (images_as files (runs_of orders) r fs i f)
 
-  complete_run : (orders : List ScriptLine) (users : List UserState) (why : Why) → Follows why Runs → IsScriptOf settings.nodes script orders → AreImagesOf files (runs_of orders) users → is_built settings orders users ≡ true → IsComplete settings script files why
+  complete_run : (orders : List ScriptLine) (users : List UserState) (why : Why) → Follows why Runs → IsScriptOf settings.nodes script orders → AreImagesOf files (runs_of orders) users → is_built_run settings orders users ≡ true → IsComplete settings script files why
   complete_run orders users why f o i b = completes settings script files why Runs f (λ s fs e g. verdict_at orders (Ok users) s fs o i.named e g ∙ ap (λ x. cond x Runs IsNotBuilt) b)
 
-  complete_unbuilt : (orders : List ScriptLine) (users : List UserState) → IsScriptOf settings.nodes script orders → AreImagesOf files (runs_of orders) users → is_built settings orders users ≡ false → IsComplete settings script files NotBuilt
+  complete_unbuilt : (orders : List ScriptLine) (users : List UserState) → IsScriptOf settings.nodes script orders → AreImagesOf files (runs_of orders) users → is_built_run settings orders users ≡ false → IsComplete settings script files NotBuilt
   complete_unbuilt orders users o i b = completes settings script files NotBuilt IsNotBuilt refl (λ s fs e g. verdict_at orders (Ok users) s fs o i.named e g ∙ ap (λ x. cond x Runs IsNotBuilt) b)
 
   complete_image : (orders : List ScriptLine) (line kind : ℕ) → IsScriptOf settings.nodes script orders → IsRefused files (runs_of orders) line kind → IsComplete settings script files (BadImage line kind)

@@ -11,20 +11,20 @@ use Rattle.shell_text.specs.declared.run.Run as runs
 use Rattle.mosix_shell.specs.Turns.{story_of, ends, quantum_steps}
 use Rattle.mosix_shell.specs.Running.{IsRunOfStory}
 use Rattle.mosix_shell.specs.Headline.{Replays, IsLawful}
-use Rattle.mosix_shell.specs.Stage.{are_built_settings, launching, only_line, ends_as, is_built, TellsStory, IsRun}
+use Rattle.mosix_shell.specs.Stage.{are_built_settings, launching, only_line, ends_as, is_built_run, TellsStory, IsRun}
 use Rattle.mosix_shell.proofs.Headlines.{replays, lawful}
 use Rattle.mosix_shell.proofs.Truth.{false_true}
 
 -- ---- what is not built
 
-pub settings_unbuilt : (s : Settings) (orders : List ScriptLine) (users : List UserState) → are_built_settings s ≡ false → is_built s orders users ≡ false
+pub settings_unbuilt : (s : Settings) (orders : List ScriptLine) (users : List UserState) → are_built_settings s ≡ false → is_built_run s orders users ≡ false
 settings_unbuilt s orders users h = ap (λ b. b && ends_as (only_line orders) users) h
 
 and_false : (a b : Bool) → b ≡ false → (a && b) ≡ false
 and_false true b h = h
 and_false false b h = refl
 
-pub line_unbuilt : (s : Settings) (orders : List ScriptLine) (users : List UserState) → only_line orders ≡ None → is_built s orders users ≡ false
+pub line_unbuilt : (s : Settings) (orders : List ScriptLine) (users : List UserState) → only_line orders ≡ None → is_built_run s orders users ≡ false
 line_unbuilt s orders users h = and_false (are_built_settings s) (ends_as (only_line orders) users) (ap (λ o. ends_as o users) h)
 
 not_one : (o : Option ℕ) (users : List UserState) → (length users == 1) ≡ false → ends_as o users ≡ false
@@ -33,10 +33,10 @@ not_one (Some line) [] h = refl
 not_one (Some line) (u ∷ []) h = let e : true ≡ false = h in cc
 not_one (Some line) (u ∷ v ∷ us) h = refl
 
-pub users_unbuilt : (s : Settings) (orders : List ScriptLine) (users : List UserState) → (length users == 1) ≡ false → is_built s orders users ≡ false
+pub users_unbuilt : (s : Settings) (orders : List ScriptLine) (users : List UserState) → (length users == 1) ≡ false → is_built_run s orders users ≡ false
 users_unbuilt s orders users h = and_false (are_built_settings s) (ends_as (only_line orders) users) (not_one (only_line orders) users h)
 
-pub story_unbuilt : (s : Settings) (orders : List ScriptLine) (users : List UserState) (line : ℕ) (u : UserState) → only_line orders ≡ Some line → users ≡ u ∷ [] → ends line u ≡ false → is_built s orders users ≡ false
+pub story_unbuilt : (s : Settings) (orders : List ScriptLine) (users : List UserState) (line : ℕ) (u : UserState) → only_line orders ≡ Some line → users ≡ u ∷ [] → ends line u ≡ false → is_built_run s orders users ≡ false
 story_unbuilt s orders users line u e f h =
     and_false (are_built_settings s) (ends_as (only_line orders) users) (ap (λ o. ends_as o users) e ∙ ap (ends_as (Some line)) f ∙ h)
 

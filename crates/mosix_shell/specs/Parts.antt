@@ -10,7 +10,7 @@ use Rattle.mosix_shell.specs.Told.{Seen, told, HasRisen, IsUntouched}
 use Rattle.mosix_shell.specs.Why.{line_of}
 use Rattle.mosix_shell.specs.Writing.{WritesSome, WritesLine}
 use Rattle.mosix_shell.specs.Images.{runs_of, AreImagesOf, IsRefused}
-use Rattle.mosix_shell.specs.Stage.{is_built, IsRun}
+use Rattle.mosix_shell.specs.Stage.{is_built_run, IsRun}
 use Rattle.mosix_shell.specs.Answers.{IsReported}
 use Rattle.mosix_shell.specs.declared.why.Why.{Why}
 use Rattle.mosix_shell.specs.declared.why.Why.TheVariants.{Done, Stuck, BadWords, BadScript, BadImage, ReadFault, WriteFault, NoMemory, JournalFull, NotBuilt, BadSource}
@@ -25,7 +25,7 @@ pub record IsRunFrom (settings : Settings) (files : Option (List NamedFile)) (or
 pub record IsUnbuiltFrom (settings : Settings) (files : Option (List NamedFile)) (orders : List ScriptLine) : Type 0 where
   pub users : List UserState
   pub users_are : AreImagesOf files (runs_of orders) users
-  pub unbuilt : is_built settings orders users ≡ false
+  pub unbuilt : is_built_run settings orders users ≡ false
 
 -- why there is no run of orders
 abbrev pub IsUnrun : Settings → Option (List NamedFile) → List ScriptLine → Why → Type 0

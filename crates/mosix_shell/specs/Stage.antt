@@ -33,8 +33,8 @@ ends_as (Some line) [] = false
 ends_as (Some line) (u ∷ []) = ends line u
 ends_as (Some line) (u ∷ v ∷ us) = false
 
-abbrev pub is_built : Settings → List ScriptLine → List UserState → Bool
-is_built settings orders users = are_built_settings settings && ends_as (only_line orders) users
+abbrev pub is_built_run : Settings → List ScriptLine → List UserState → Bool
+is_built_run settings orders users = are_built_settings settings && ends_as (only_line orders) users
 
 -- ---- a run
 
@@ -44,7 +44,7 @@ TellsStory (l ∷ []) (u ∷ []) run = IsRunOfStory run (story_of l.line u)
 TellsStory _ _ run = ⊥
 
 pub record IsRun (settings : Settings) (orders : List ScriptLine) (users : List UserState) (run : runs.Run) : Type 0 where
-  pub built : is_built settings orders users ≡ true
+  pub built : is_built_run settings orders users ≡ true
   pub story : TellsStory orders users run
   -- its own events, played on one node, give what it tells; it is done, and every process has ended
   pub replays : Replays users orders run

@@ -1,6 +1,6 @@
 // The run of a script by the processes of its `run` lines. So far one process runs on one node: another form is not built.
 ghost use Rattle.std.specs.Prelude.{◌≡◌, ◌∷◌, [], Err, IfOk, IfSome, IfNone, false, length, ◌==◌};
-ghost use Rattle.mosix_shell.specs.Stage.{are_built_settings, only_line, is_built, IsRun};
+ghost use Rattle.mosix_shell.specs.Stage.{are_built_settings, only_line, is_built_run, IsRun};
 
 use crate::run::run_process;
 use mosix_words::Settings;
@@ -69,7 +69,7 @@ pub fn run_users(
     users: Users,
 ) -> Result<Run, Unrun>
     ensures run { IfOk result (IsRun settings.now orders.now users) }
-    ensures unbuilt { result ≡ Err Unrun.NotBuilt → is_built settings.now orders.now users ≡ false }
+    ensures unbuilt { result ≡ Err Unrun.NotBuilt → is_built_run settings.now orders.now users ≡ false }
 {
     if !are_built_settings(settings) {
         return Err(Unrun::NotBuilt);

@@ -1,8 +1,9 @@
 -- Calls that end where the process runs.
-use Rattle.std.specs.Prelude.{ℕ, ◌≡◌, true, false, Option, Some, None}
+use Rattle.std.specs.Prelude.{ℕ, ◌≡◌, ◌≢◌, Bool, true, false, Option, Some, None}
+use Rattle.call_table.specs.declared.request.Request.{Request}
 use Rattle.user_spec.specs.User.{UserState}
-use Rattle.user_spec.specs.Request.{is_break, break_maps, is_local_call, local_call, with_value}
-use Rattle.user_spec.specs.Advance.{advance, AtCall, Faults}
+use Rattle.user_spec.specs.Request.{is_break, break_maps, is_local_call, local_call, with_value, call_request}
+use Rattle.user_spec.specs.Advance.{Went, Done, AtCall, Faults, advance}
 use Rattle.call_table.specs.declared.signal.TheConstants.{SIGSEGV}
 use Rattle.user_spec.specs.declared.effect.Effect.{Effect}
 use Rattle.user_spec.specs.declared.effect.Effect.TheVariants.{Sets, Loads, Stores, Calls, Raises}
@@ -35,3 +36,20 @@ signal_of (Sets rd value next) = Some SIGSEGV
 abbrev pub AsksBy : Option ℕ → UserState → Type 0
 AsksBy None u = advance u ≡ AtCall
 AsksBy (Some signal) u = advance u ≡ Faults signal
+
+abbrev pub is_ecall : Effect → Bool
+is_ecall Calls = true
+is_ecall (Raises signal) = false
+is_ecall (Loads rd addr form) = false
+is_ecall (Stores addr value width) = false
+is_ecall (Sets rd value next) = false
+
+abbrev pub is_at : Went → Bool
+is_at AtCall = true
+is_at (Done v) = false
+is_at (Faults signal) = false
+
+-- at a forwarded call this request, none where it is at no such call
+abbrev pub AsksCall : Option Request → UserState → Type 0
+AsksCall None u = advance u ≢ AtCall
+AsksCall (Some asked) u = (advance u ≡ AtCall) × (asked ≡ call_request u)

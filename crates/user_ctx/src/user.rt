@@ -1,12 +1,12 @@
 // A user process, seen as its state.
-ghost use Rattle.std.specs.Prelude.{◌≡◌, ◌≢◌, ◌∷◌, [], ◌<◌, ◌≤◌, ◌%◌, ◌^◌, ◌-◌, ◌+◌, true, false, replicate, Ok, Some, IsSome, IfOk, OnOk, OnErr, slice_set, slice_index, nat_lt, min};
+ghost use Rattle.std.specs.Prelude.{◌≡◌, ◌≢◌, ◌∷◌, [], ◌<◌, ◌≤◌, ◌%◌, ◌^◌, ◌-◌, ◌+◌, true, false, not, replicate, Ok, Some, IsSome, IfOk, OnOk, OnErr, slice_set, slice_index, nat_lt, min};
 ghost use Rattle.std.specs.FinMap as map;
 ghost use Rattle.page_set.specs.Pages.{with_bytes};
 ghost use Rattle.user_spec.specs.User.{UserState, need_of_user};
-ghost use Rattle.user_spec.specs.Request.{number_of, args_of, stack_pointer, frame_word, frame_registers, buffer_of, buffer_address, has_buffer, has_frame_room, handed_bytes, asked_args, returned_pointer, call_request, fault_request, returned, entered, forked, with_value, with_brk, with_break, is_break, break_maps};
+ghost use Rattle.user_spec.specs.Request.{number_of, args_of, is_local_call, stack_pointer, frame_word, frame_registers, buffer_of, buffer_address, has_buffer, has_frame_room, handed_bytes, asked_args, returned_pointer, call_request, fault_request, returned, entered, forked, with_value, with_brk, with_break, is_break, break_maps};
 ghost use Rattle.user_spec.specs.Advance.{Walk, Done, advance, walked, grows, counted, stepped, request_of};
 ghost use Rattle.user_ctx.specs.Stopping.{StopsAt, Leads, EndsAs, limited, IsAtEcall};
-ghost use Rattle.user_ctx.specs.Calling.{IsPlan, IsLocal, signal_of, AsksBy};
+ghost use Rattle.user_ctx.specs.Calling.{IsPlan, IsLocal, signal_of, AsksBy, is_ecall, is_at, AsksCall};
 ghost use Rattle.user_ctx.specs.Heap.{mapped_for};
 
 use crate::heap::{self, HEAP_END};
@@ -380,7 +380,8 @@ impl User {
         self.x[2]
     }
 
-    fn number(&self) -> u32
+    /// The number of the call that it makes, where it is at one.
+    pub fn number(&self) -> u32
         ensures { result ≡ number_of self.now }
     {
         self.x[17]
@@ -455,6 +456,38 @@ impl User {
             bytes,
             room: self.returned_room(),
         })
+    }
+
+    /// Whether the call that it makes is one that is forwarded.
+    fn forwards(&self) -> bool
+        ensures { result ≡ not (is_local_call self.now) }
+    {
+        !is_local(self.number()) && self.has_buffer()
+    }
+
+    /// Whether it is at a forwarded call.
+    #[tactic(auto, using(crate::proofs::Asking::not_at_full))]
+    fn is_at_call(&self) -> bool
+        ensures { result ≡ is_at (advance self.now) }
+    {
+        if self.count >= STEPS {
+            return false;
+        }
+        if !is_ecall(step::next(self.pc, &self.x, &self.pages)) {
+            return false;
+        }
+        self.forwards()
+    }
+
+    /// What it asks at a forwarded call. None exactly where it is at none.
+    pub fn call(&self, alloc: Global) -> Result<Option<Request>, NoMemory>
+        ensures { IfOk result (λ asked. AsksCall asked self.now) }
+    {
+        if !self.is_at_call() {
+            return Ok(None);
+        }
+        let request = self.call_request(alloc)?;
+        Ok(Some(request))
     }
 
     /// The signal of its fault, none at a forwarded call.
@@ -602,4 +635,11 @@ fn signal_of(effect: Effect) -> Option<u8>
         Effect::Stores { .. } => Some(SIGSEGV),
         Effect::Sets { .. } => Some(SIGSEGV),
     }
+}
+
+/// Whether an instruction is an environment call.
+fn is_ecall(effect: Effect) -> bool
+    ensures { result ≡ is_ecall effect }
+{
+    matches!(effect, Effect::Calls)
 }
