@@ -1,85 +1,338 @@
--- What is written, and what each mode promises.
-use Rattle.std.proofs.Common.{◌≡◌, ◌⊎◌, inl, inr, ◌+◌, refl, ap, ◌∙◌, sym, subst, Option, Some, None, Bool, true, false, cond, is_some, IfSome}
+-- What the parts of the top call come to is what each mode promises.
+use Rattle.std.proofs.Common.{◌≡◌, ◌⊎◌, inl, inr, ℕ, ◌+◌, ◌≤◌, List, [], ◌∷◌, refl, ap, ◌∙◌, sym, subst, arith, Option, Some, None, Result, Ok, Err, Bool, true, false, cond, is_some}
 use Rattle.call_table.specs.declared.limit.TheConstants.{SCRIPT_BYTES}
-use Rattle.mosix_shell.specs.Told.{Outside}
+use Rattle.outside.specs.Outside.{NamedFile, Rose}
+use Rattle.outside.specs.declared.traits.Failed.{Failed}
+use Rattle.node_event.specs.declared.script.ScriptLine.{ScriptLine}
+use Rattle.mosix_words.specs.declared.settings.Mode.{Mode}
+use Rattle.mosix_words.specs.declared.settings.Mode.TheVariants as mode
+use Rattle.mosix_words.specs.declared.settings.Settings.{Settings}
+use Rattle.user_spec.specs.User.{UserState}
+use Rattle.shell_text.specs.Printing.{IsCall, AreWritten, FailsAt, BreaksAt, StopsBy, Prints}
+use Rattle.shell_text.specs.Report.{report_writes}
+use Rattle.shell_text.specs.Script.{script_of}
+use Rattle.shell_text.specs.declared.fault.ScriptError.{ScriptError}
+use Rattle.shell_text.specs.declared.fault.ScriptError.TheVariants as fault
+use Rattle.shell_text.specs.declared.run.Last.{Last}
+use Rattle.shell_text.specs.declared.run.Last.TheVariants as last
+use Rattle.shell_text.specs.declared.run.Run.{Run}
+use Rattle.mosix_shell.specs.Told.{Seen, WhereTold, IsTextOf, told, tells_now, HasRisen, IsUntouched}
 use Rattle.mosix_shell.specs.Reading.{Reads}
-use Rattle.mosix_shell.specs.Why.{text_of, has_run, is_of_run, cuts_short, RefusesRun}
-use Rattle.mosix_shell.specs.Writing.{Writes, WritesRun}
-use Rattle.mosix_shell.specs.Verdict.{IsRunOf, IsVerdict}
-use Rattle.mosix_shell.specs.Answers.{RunAnswers, AsmAnswers, Answers}
-use Rattle.mosix_shell.specs.declared.run.Run.{Run}
+use Rattle.mosix_shell.specs.Why.{line_of, has_run, why_of_last, cuts_short}
+use Rattle.mosix_shell.specs.Writing.{WritesAll, WritesFront, WritesSome, WritesLine}
+use Rattle.mosix_shell.specs.Orders.{IsScriptOf, IsFaultOf, IsUnread}
+use Rattle.mosix_shell.specs.Images.{Refusal, RunLine, runs_of, images_of, AreImagesOf, IsRefused}
+use Rattle.mosix_shell.specs.Stage.{is_built_run, IsRun}
+use Rattle.mosix_shell.specs.Causes.{AreAccepted, HasRefused, IsUnbuilt, CauseOf, Verdict, IsFaulty, HasBadImage, IsNotBuilt, Runs, verdict_on_users, verdict_on_script, verdict_of, Follows, IsComplete}
+use Rattle.mosix_shell.specs.Answers.{IsRunOf, IsReported, TellsRun, IsPartlyTold, WritesAnswer, TellsNone, Tells, RunAnswers, AsmAnswers, Refuses, AnswersIn, Answers}
+use Rattle.mosix_shell.specs.Parts.{IsRunFrom, IsUnbuiltFrom, IsUnrun, IsTold, IsPartOf, RefusesOrders, TellsOrders}
 use Rattle.mosix_shell.specs.declared.mosix.Ended.{Ended}
 use Rattle.mosix_shell.specs.declared.why.Why.{Why}
-use Rattle.mosix_shell.specs.declared.why.Why.TheVariants.{Done, BadWords, BadImage, ReadFault, WriteFault, NoMemory, NotBuilt, BadSource}
-use Rattle.mosix_shell.specs.declared.words.Mode.{Mode}
-use Rattle.mosix_shell.specs.declared.words.Mode.TheVariants as mode
-use Rattle.mosix_shell.proofs.Truth.{false_true}
-use Rattle.mosix_shell.proofs.Readings.{cut_or_not, still_read}
-use Rattle.mosix_shell.proofs.Verdicts.{verdict_told, verdict_refused}
+use Rattle.mosix_shell.specs.declared.why.Why.TheVariants.{Done, Stuck, BadWords, BadScript, BadImage, ReadFault, WriteFault, NoMemory, JournalFull, NotBuilt, BadSource}
+use Rattle.mosix_shell.proofs.Readings.{cut_or_not, still_read, none_read}
+use Rattle.mosix_shell.proofs.Assemblies.{no_memory}
+
+-- ---- the line of an answer
+
+module _ {O : Type 0} (sink : Seen O (List ℕ)) where
+  pub line_written : (ended : Ended) (status : ℕ) (why : Why) (line given : List ℕ) (r : Result (Unit {0}) Failed) → ended ≡ record { status = status; why = why; run = None } → line_of why ≡ Some line → given ≡ line
+      → IsCall sink.tells sink.faults sink.old given r sink.new → WritesLine sink (line_of ended.why)
+  line_written ended status why line given r is e same call =
+      subst (λ (x : Ended). WritesLine sink (line_of x.why)) (sym is)
+      (subst (WritesLine sink) (sym e) (r, subst (λ x. IsCall sink.tells sink.faults sink.old x r sink.new) same call))
+
+  pub line_unwritten : (ended : Ended) (status : ℕ) (why : Why) → ended ≡ record { status = status; why = why; run = None } → line_of why ≡ None → IsUntouched sink → WritesLine sink (line_of ended.why)
+  line_unwritten ended status why is e same = subst (λ (x : Ended). WritesLine sink (line_of x.why)) (sym is) (subst (WritesLine sink) (sym e) same)
+
+-- ---- the report of a run
+
+module _ {O : Type 0} (sink : Seen O (List ℕ)) (report : List (List ℕ)) (run : Run) where
+  reported_last : (l : Last) → run.last ≡ l → WritesAll sink report → IsReported sink report run (why_of_last l)
+  reported_last last.Done e w = (ap why_of_last (sym e), w)
+  reported_last last.Stuck e w = (ap why_of_last (sym e), w)
+  reported_last (last.Full node) e w = (ap why_of_last (sym e), w)
+
+  pub told_whole : (ended : Ended) (status : ℕ) (why : Why) → ended ≡ record { status = status; why = why; run = Some run } → why ≡ why_of_last run.last → WritesAll sink report → IsTold sink report run ended.run ended.why
+  told_whole ended status why is e w =
+      subst (λ (x : Ended). IsTold sink report run x.run x.why) (sym is) (refl, subst (IsReported sink report run) (sym e) (reported_last run.last refl w))
+
+  pub told_front : (ended : Ended) (status : ℕ) → ended ≡ record { status = status; why = WriteFault; run = Some run } → WritesFront sink report → IsTold sink report run ended.run ended.why
+  told_front ended status is w = subst (λ (x : Ended). IsTold sink report run x.run x.why) (sym is) (refl, w)
+
+  pub told_some : (ended : Ended) (status : ℕ) → ended ≡ record { status = status; why = NoMemory; run = None } → WritesSome sink report → IsTold sink report run ended.run ended.why
+  told_some ended status is w = subst (λ (x : Ended). IsTold sink report run x.run x.why) (sym is) (refl, w)
+
+-- ---- the orders of a script
+
+module _ {I O : Type 0} (settings : Settings) (orders : List ScriptLine) (images : Seen I (List NamedFile)) (sink : Seen O (List ℕ)) where
+  tells_run : (run : Run) (o : Option Run) (why : Why) → IsRunFrom settings (told images) orders run → IsTold sink (report_writes run orders settings.events) run o why → TellsOrders settings orders images sink o why
+  tells_run run (Some shown) why r t = subst (λ (x : Run). IsRunFrom settings (told images) orders x × IsReported sink (report_writes x orders settings.events) x why) (sym t.0) (r, t.1)
+  tells_run run None why r t = subst (RefusesOrders settings orders images sink) (sym t.0) (inr (record { run = run; run_from = r; printed = t.1 }))
+
+  pub orders_told : (run : Run) (ended : Ended) → IsRunFrom settings (told images) orders run → IsTold sink (report_writes run orders settings.events) run ended.run ended.why → TellsOrders settings orders images sink ended.run ended.why
+  orders_told run ended r t = tells_run run ended.run ended.why r t
+
+  refused_so : (why : Why) → IsUnrun settings (told images) orders why → (why ≡ ReadFault → HasRisen images) → WritesLine sink (line_of why) → RefusesOrders settings orders images sink why
+  refused_so (BadImage line kind) u f w = (u, w)
+  refused_so NotBuilt u f w = (u, w)
+  refused_so ReadFault u f w = (f refl, w)
+  refused_so NoMemory u f w = inl w
+  refused_so BadWords u f w = absurd u
+  refused_so (BadScript line kind) u f w = absurd u
+  refused_so (BadSource line kind) u f w = absurd u
+  refused_so Done u f w = absurd u
+  refused_so Stuck u f w = absurd u
+  refused_so WriteFault u f w = absurd u
+  refused_so (JournalFull node) u f w = absurd u
+
+  refused_as : (why told' : Why) → ((told' ≡ why) ⊎ (told' ≡ NoMemory)) → IsUnrun settings (told images) orders why → (why ≡ ReadFault → HasRisen images) → WritesLine sink (line_of told') → RefusesOrders settings orders images sink told'
+  refused_as why told' (inl e) u f w = refused_so told' (subst (IsUnrun settings (told images) orders) (sym e) u) (λ h. f (sym e ∙ h)) w
+  refused_as why told' (inr e) u f w = subst (RefusesOrders settings orders images sink) (sym e) (inl (subst (λ y. WritesLine sink (line_of y)) e w))
+
+  pub orders_refused : (why : Why) (ended : Ended) → ended.run ≡ None → ((ended.why ≡ why) ⊎ (ended.why ≡ NoMemory)) → IsUnrun settings (told images) orders why → (why ≡ ReadFault → HasRisen images) → WritesLine sink (line_of ended.why)
+      → TellsOrders settings orders images sink ended.run ended.why
+  orders_refused why ended none is u f w = subst (λ o. TellsOrders settings orders images sink o ended.why) (sym none) (refused_as why ended.why is u f w)
+
+-- ---- mode `run`: completeness
+
+completes : (settings : Settings) (script : Option (List ℕ)) (files : Option (List NamedFile)) (why : Why) (v : Verdict) → Follows why v → ((s : List ℕ) (fs : List NamedFile) → script ≡ Some s → files ≡ Some fs → verdict_of settings s fs ≡ v) → IsComplete settings script files why
+completes settings None files why v f h = tt
+completes settings (Some s) None why v f h = tt
+completes settings (Some s) (Some fs) why v f h = subst (Follows why) (sym (h s fs refl refl)) f
+
+read_as : (nodes : ℕ) (script : Option (List ℕ)) (orders : List ScriptLine) (s : List ℕ) → IsScriptOf nodes script orders → script ≡ Some s → script_of nodes s ≡ Ok orders
+read_as nodes script orders s r e = let same : r.text ≡ s = subst (λ o. IsTextOf o r.text) e r.text_is in ap (script_of nodes) (sym same) ∙ r.reads
+
+faulty_as : (nodes : ℕ) (script : Option (List ℕ)) (line kind : ℕ) (s : List ℕ) → IsFaultOf nodes script line kind → script ≡ Some s → script_of nodes s ≡ Err (fault.Fault line kind)
+faulty_as nodes script line kind s r e = let same : r.text ≡ s = subst (λ o. IsTextOf o r.text) e r.text_is in ap (script_of nodes) (sym same) ∙ r.reads
+
+images_as : (files : Option (List NamedFile)) (runs : List RunLine) (r : Result (List UserState) Refusal) (fs : List NamedFile) → WhereTold files (λ x. images_of x runs ≡ r) → files ≡ Some fs → images_of fs runs ≡ r
+images_as files runs r fs h e = subst (λ o. WhereTold o (λ x. images_of x runs ≡ r)) e h
+
+complete_free : (settings : Settings) (script : Option (List ℕ)) (files : Option (List NamedFile)) (why : Why) → ((v : Verdict) → Follows why v) → IsComplete settings script files why
+complete_free settings None files why h = tt
+complete_free settings (Some s) None why h = tt
+complete_free settings (Some s) (Some fs) why h = h (verdict_of settings s fs)
+
+module _ (settings : Settings) (script : Option (List ℕ)) (files : Option (List NamedFile)) where
+  verdict_at : (orders : List ScriptLine) (r : Result (List UserState) Refusal) (s : List ℕ) (fs : List NamedFile) → IsScriptOf settings.nodes script orders → WhereTold files (λ x. images_of x (runs_of orders) ≡ r) → script ≡ Some s → files ≡ Some fs
+      → verdict_of settings s fs ≡ verdict_on_users settings orders r
+  verdict_at orders r s fs o i e f = ap (verdict_on_script settings fs) (read_as settings.nodes script orders s o e) ∙ ap (verdict_on_users settings orders) (images_as files (runs_of orders) r fs i f)
+
+  complete_run : (orders : List ScriptLine) (users : List UserState) (why : Why) → Follows why Runs → IsScriptOf settings.nodes script orders → AreImagesOf files (runs_of orders) users → is_built_run settings orders users ≡ true → IsComplete settings script files why
+  complete_run orders users why f o i b = completes settings script files why Runs f (λ s fs e g. verdict_at orders (Ok users) s fs o i.named e g ∙ ap (λ x. cond x Runs IsNotBuilt) b)
+
+  complete_unbuilt : (orders : List ScriptLine) (users : List UserState) → IsScriptOf settings.nodes script orders → AreImagesOf files (runs_of orders) users → is_built_run settings orders users ≡ false → IsComplete settings script files NotBuilt
+  complete_unbuilt orders users o i b = completes settings script files NotBuilt IsNotBuilt refl (λ s fs e g. verdict_at orders (Ok users) s fs o i.named e g ∙ ap (λ x. cond x Runs IsNotBuilt) b)
+
+  complete_image : (orders : List ScriptLine) (line kind : ℕ) → IsScriptOf settings.nodes script orders → IsRefused files (runs_of orders) line kind → IsComplete settings script files (BadImage line kind)
+  complete_image orders line kind o r = completes settings script files (BadImage line kind) (HasBadImage line kind) refl (λ s fs e g. verdict_at orders (Err (record { line = line; kind = kind })) s fs o r.named e g)
+
+  complete_fault : (line kind : ℕ) → IsFaultOf settings.nodes script line kind → IsComplete settings script files (BadScript line kind)
+  complete_fault line kind r = completes settings script files (BadScript line kind) (IsFaulty line kind) refl (λ s fs e g. ap (verdict_on_script settings fs) (faulty_as settings.nodes script line kind s r e))
 
 -- ---- mode `run`
 
-hollow : (why told : Why) → RefusesRun why → ((told ≡ why) ⊎ (told ≡ NoMemory)) → has_run told ≡ false
-hollow why told r (inl e) = ap has_run e ∙ r.hollow
-hollow why told r (inr e) = ap has_run e
+follows_last : (l : Last) → Follows (why_of_last l) Runs
+follows_last last.Done = refl
+follows_last last.Stuck = refl
+follows_last (last.Full node) = refl
 
-of_run : (why told : Why) → RefusesRun why → ((told ≡ why) ⊎ (told ≡ NoMemory)) → is_of_run told ≡ true
-of_run why told r (inl e) = ap is_of_run e ∙ r.of_run
-of_run why told r (inr e) = ap is_of_run e
+last_has_run : (l : Last) → true ≡ has_run (why_of_last l)
+last_has_run last.Done = refl
+last_has_run last.Stuck = refl
+last_has_run (last.Full node) = refl
 
-pub refused_run : (before after : Outside) (ended : Ended) (why : Why) → ended.run ≡ None → ((ended.why ≡ why) ⊎ (ended.why ≡ NoMemory)) → RefusesRun why
-    → IsVerdict before.script.told before.images.told why → Reads (SCRIPT_BYTES + 1) before.script.told after.script.told (cuts_short why) → Writes before.sink after.sink (text_of ended.why)
-    → RunAnswers before after ended
-refused_run before after ended why none told r verdict reads written = record {
-  kind = of_run why ended.why r told;
-  has_run = ap is_some none ∙ sym (hollow why ended.why r told);
-  run = subst (λ o. IfSome o (IsRunOf before.script.told before.images.told)) (sym none) tt;
-  verdict = verdict_refused before.script.told before.images.told why ended.why verdict told;
-  reads = still_read (SCRIPT_BYTES + 1) before.script.told after.script.told why ended.why reads told;
-  written = subst (λ o. WritesRun before.sink after.sink o ended.why) (sym none) written;
-}
+module _ {O : Type 0} (sink : Seen O (List ℕ)) (report : List (List ℕ)) (run : Run) where
+  reported_follows : (why : Why) → IsReported sink report run why → Follows why Runs
+  reported_follows Done h = subst (λ y. Follows y Runs) (sym h.0) (follows_last run.last)
+  reported_follows Stuck h = subst (λ y. Follows y Runs) (sym h.0) (follows_last run.last)
+  reported_follows BadWords h = subst (λ y. Follows y Runs) (sym h.0) (follows_last run.last)
+  reported_follows (BadScript line kind) h = subst (λ y. Follows y Runs) (sym h.0) (follows_last run.last)
+  reported_follows (BadImage line kind) h = subst (λ y. Follows y Runs) (sym h.0) (follows_last run.last)
+  reported_follows ReadFault h = subst (λ y. Follows y Runs) (sym h.0) (follows_last run.last)
+  reported_follows WriteFault h = refl
+  reported_follows NoMemory h = subst (λ y. Follows y Runs) (sym h.0) (follows_last run.last)
+  reported_follows (JournalFull node) h = subst (λ y. Follows y Runs) (sym h.0) (follows_last run.last)
+  reported_follows NotBuilt h = subst (λ y. Follows y Runs) (sym h.0) (follows_last run.last)
+  reported_follows (BadSource line kind) h = subst (λ y. Follows y Runs) (sym h.0) (follows_last run.last)
 
-with_run : (why : Why) → has_run why ≡ true → is_of_run why ≡ true
-with_run Done h = refl
-with_run WriteFault h = refl
-with_run NotBuilt h = refl
-with_run ReadFault h = refl
-with_run NoMemory h = refl
-with_run (BadImage line kind) h = refl
-with_run BadWords h = false_true h
-with_run (BadSource line kind) h = false_true h
+  reported_has_run : (why : Why) → IsReported sink report run why → true ≡ has_run why
+  reported_has_run Done h = last_has_run run.last ∙ ap has_run (sym h.0)
+  reported_has_run Stuck h = last_has_run run.last ∙ ap has_run (sym h.0)
+  reported_has_run BadWords h = last_has_run run.last ∙ ap has_run (sym h.0)
+  reported_has_run (BadScript line kind) h = last_has_run run.last ∙ ap has_run (sym h.0)
+  reported_has_run (BadImage line kind) h = last_has_run run.last ∙ ap has_run (sym h.0)
+  reported_has_run ReadFault h = last_has_run run.last ∙ ap has_run (sym h.0)
+  reported_has_run WriteFault h = refl
+  reported_has_run NoMemory h = last_has_run run.last ∙ ap has_run (sym h.0)
+  reported_has_run (JournalFull node) h = last_has_run run.last ∙ ap has_run (sym h.0)
+  reported_has_run NotBuilt h = last_has_run run.last ∙ ap has_run (sym h.0)
+  reported_has_run (BadSource line kind) h = last_has_run run.last ∙ ap has_run (sym h.0)
 
-told_kind : (why : Why) → ((has_run why ≡ true) ⊎ (why ≡ NoMemory)) → is_of_run why ≡ true
-told_kind why (inl h) = with_run why h
-told_kind why (inr e) = ap is_of_run e
+module _ {S I O : Type 0} (settings : Settings) (script : Seen S (List ℕ)) (images : Seen I (List NamedFile)) (sink : Seen O (List ℕ)) where
+  writes_answer : (why : Why) → WritesLine sink (line_of why) → WritesAnswer settings script images sink why
+  writes_answer Done h = h
+  writes_answer Stuck h = h
+  writes_answer BadWords h = h
+  writes_answer (BadScript line kind) h = h
+  writes_answer (BadImage line kind) h = h
+  writes_answer ReadFault h = h
+  writes_answer WriteFault h = h
+  writes_answer NoMemory h = inl h
+  writes_answer (JournalFull node) h = h
+  writes_answer NotBuilt h = h
+  writes_answer (BadSource line kind) h = h
 
-some_if : (b : Bool) (run : Run) → is_some (cond b (Some run) None) ≡ b
-some_if true run = refl
-some_if false run = refl
+  cause_has_run : (why : Why) → CauseOf settings script images why → false ≡ has_run why
+  cause_has_run Done c = absurd c
+  cause_has_run Stuck c = absurd c
+  cause_has_run BadWords c = refl
+  cause_has_run (BadScript line kind) c = refl
+  cause_has_run (BadImage line kind) c = refl
+  cause_has_run ReadFault c = refl
+  cause_has_run WriteFault c = absurd c
+  cause_has_run NoMemory c = refl
+  cause_has_run (JournalFull node) c = absurd c
+  cause_has_run NotBuilt c = refl
+  cause_has_run (BadSource line kind) c = refl
 
-run_if : (P : Run → Type 0) (b : Bool) (run : Run) → P run → IfSome (cond b (Some run) None) P
-run_if P true run h = h
-run_if P false run h = tt
+  tells_has_run : (o : Option Run) (why : Why) → Tells settings script images sink o why → is_some o ≡ has_run why
+  tells_has_run (Some run) why t = reported_has_run sink (report_writes run t.orders settings.events) run why t.printed
+  tells_has_run None why t = cause_has_run why t.causes
 
-pub told_run : (before after : Outside) (ended : Ended) (run : Run) → ended.run ≡ cond (has_run ended.why) (Some run) None → ((has_run ended.why ≡ true) ⊎ (ended.why ≡ NoMemory)) → IsRunOf before.script.told before.images.told run
-    → IsVerdict before.script.told before.images.told Done → Reads (SCRIPT_BYTES + 1) before.script.told after.script.told false → WritesRun before.sink after.sink ended.run ended.why
-    → RunAnswers before after ended
-told_run before after ended run is told of verdict reads written = record {
-  kind = told_kind ended.why told;
-  has_run = ap is_some is ∙ some_if (has_run ended.why) run;
-  run = subst (λ o. IfSome o (IsRunOf before.script.told before.images.told)) (sym is) (run_if (IsRunOf before.script.told before.images.told) (has_run ended.why) run of);
-  verdict = verdict_told before.script.told before.images.told ended.why verdict told;
-  reads = cut_or_not (SCRIPT_BYTES + 1) before.script.told after.script.told (cuts_short ended.why) reads;
-  written = written;
-}
+  -- ---- the script is refused
 
--- ---- the mode of the words
+  unread_cause : (why : Why) → IsUnread settings.nodes (told script) why → (why ≡ ReadFault → HasRisen script) → CauseOf settings script images why
+  unread_cause Done u f = absurd u
+  unread_cause Stuck u f = absurd u
+  unread_cause BadWords u f = absurd u
+  unread_cause (BadScript line kind) u f = u
+  unread_cause (BadImage line kind) u f = absurd u
+  unread_cause ReadFault u f = inl (f refl)
+  unread_cause WriteFault u f = absurd u
+  unread_cause NoMemory u f = tt
+  unread_cause (JournalFull node) u f = absurd u
+  unread_cause NotBuilt u f = absurd u
+  unread_cause (BadSource line kind) u f = absurd u
 
-pub answers_run : (words : Option Mode) (m : Mode) (before after : Outside) (ended : Ended) → words ≡ Some m → m ≡ mode.Run → RunAnswers before after ended → Answers words before after ended
-answers_run words m before after ended is e r = subst (λ o. Answers o before after ended) (sym (is ∙ ap (λ (x : Mode). Some x) e)) r
+  unread_complete : (why : Why) → IsUnread settings.nodes (told script) why → IsComplete settings (told script) (told images) why
+  unread_complete Done u = absurd u
+  unread_complete Stuck u = absurd u
+  unread_complete BadWords u = absurd u
+  unread_complete (BadScript line kind) u = complete_fault settings (told script) (told images) line kind u
+  unread_complete (BadImage line kind) u = absurd u
+  unread_complete ReadFault u = complete_free settings (told script) (told images) ReadFault (λ v. tt)
+  unread_complete WriteFault u = absurd u
+  unread_complete NoMemory u = complete_free settings (told script) (told images) NoMemory (λ v. tt)
+  unread_complete (JournalFull node) u = absurd u
+  unread_complete NotBuilt u = absurd u
+  unread_complete (BadSource line kind) u = absurd u
 
-pub answers_asm : (words : Option Mode) (m : Mode) (before after : Outside) (ended : Ended) → words ≡ Some m → m ≡ mode.Asm → AsmAnswers before.script after.script before.sink after.sink ended → Answers words before after ended
-answers_asm words m before after ended is e r = subst (λ o. Answers o before after ended) (sym (is ∙ ap (λ (x : Mode). Some x) e)) r
+  memory_tells : WritesLine sink (line_of NoMemory) → TellsNone settings script images sink NoMemory
+  memory_tells w = record { causes = tt; printed = inl w }
 
-pub answers_none : (words : Option Mode) (before after : Outside) (ended : Ended) → words ≡ None → ((ended.why ≡ BadWords) ⊎ (ended.why ≡ NoMemory)) → ended.run ≡ None → Writes before.sink after.sink (text_of ended.why) → Answers words before after ended
-answers_none words before after ended is why none written = subst (λ o. Answers o before after ended) (sym is) (record { why = why; no_run = none; written = written })
+  unread_tells : (why shown : Why) → ((shown ≡ why) ⊎ (shown ≡ NoMemory)) → IsUnread settings.nodes (told script) why → (why ≡ ReadFault → HasRisen script) → WritesLine sink (line_of shown) → TellsNone settings script images sink shown
+  unread_tells why shown (inl e) u f w = record {
+    causes = unread_cause shown (subst (IsUnread settings.nodes (told script)) (sym e) u) (λ h. f (sym e ∙ h));
+    printed = writes_answer shown w;
+  }
+  unread_tells why shown (inr e) u f w = subst (TellsNone settings script images sink) (sym e) (memory_tells (subst (λ y. WritesLine sink (line_of y)) e w))
+
+  unread_follows : (why shown : Why) → ((shown ≡ why) ⊎ (shown ≡ NoMemory)) → IsUnread settings.nodes (told script) why → IsComplete settings (told script) (told images) shown
+  unread_follows why shown (inl e) u = unread_complete shown (subst (IsUnread settings.nodes (told script)) (sym e) u)
+  unread_follows why shown (inr e) u = subst (IsComplete settings (told script) (told images)) (sym e) (complete_free settings (told script) (told images) NoMemory (λ v. tt))
+
+  pub script_refused : (why : Why) (ended : Ended) → ended.run ≡ None → ((ended.why ≡ why) ⊎ (ended.why ≡ NoMemory)) → IsUnread settings.nodes (told script) why → (why ≡ ReadFault → HasRisen script)
+      → Reads (SCRIPT_BYTES + 1) (told script) (tells_now script) (cuts_short why) → WritesLine sink (line_of ended.why) → RunAnswers settings script images sink ended
+  script_refused why ended none is u f reads w = record {
+    tells = subst (λ o. Tells settings script images sink o ended.why) (sym none) (unread_tells why ended.why is u f w);
+    has_run = ap is_some none ∙ cause_has_run ended.why (unread_tells why ended.why is u f w).causes;
+    completeness = unread_follows why ended.why is u;
+    reads = still_read (SCRIPT_BYTES + 1) (told script) (tells_now script) why ended.why reads is;
+  }
+
+  -- ---- the script is run
+
+  run_accepted : (orders : List ScriptLine) (run : Run) → IsScriptOf settings.nodes (told script) orders → IsRunFrom settings (told images) orders run → IsRunOf settings (told script) (told images) orders run
+  run_accepted orders run o r = record { users = r.users; accepted = record { orders_are = o; users_are = r.users_are }; is = r.is }
+
+  part_told : (orders : List ScriptLine) → IsScriptOf settings.nodes (told script) orders → (IsUntouched sink ⊎ IsPartOf settings orders images sink) → IsUntouched sink ⊎ IsPartlyTold settings script images sink
+  part_told orders o (inl h) = inl h
+  part_told orders o (inr p) = inr (record { run = p.run; orders = orders; run_of = run_accepted orders p.run o p.run_from; printed = p.printed })
+
+  none_tells : (orders : List ScriptLine) (why : Why) → IsScriptOf settings.nodes (told script) orders → RefusesOrders settings orders images sink why → TellsNone settings script images sink why
+  none_tells orders Done o r = absurd r
+  none_tells orders Stuck o r = absurd r
+  none_tells orders BadWords o r = absurd r
+  none_tells orders (BadScript line kind) o r = absurd r
+  none_tells orders (BadImage line kind) o r = record { causes = record { orders = orders; orders_are = o; refused = r.0 }; printed = r.1 }
+  none_tells orders ReadFault o r = record { causes = inr r.0; printed = r.1 }
+  none_tells orders WriteFault o r = absurd r
+  none_tells orders NoMemory o r = record { causes = tt; printed = part_told orders o r }
+  none_tells orders (JournalFull node) o r = absurd r
+  none_tells orders NotBuilt o r = record { causes = record { orders = orders; users = r.0.users; accepted = record { orders_are = o; users_are = r.0.users_are }; unbuilt = r.0.unbuilt }; printed = r.1 }
+  none_tells orders (BadSource line kind) o r = absurd r
+
+  none_complete : (orders : List ScriptLine) (why : Why) → IsScriptOf settings.nodes (told script) orders → RefusesOrders settings orders images sink why → IsComplete settings (told script) (told images) why
+  none_complete orders Done o r = absurd r
+  none_complete orders Stuck o r = absurd r
+  none_complete orders BadWords o r = absurd r
+  none_complete orders (BadScript line kind) o r = absurd r
+  none_complete orders (BadImage line kind) o r = complete_image settings (told script) (told images) orders line kind o r.0
+  none_complete orders ReadFault o r = complete_free settings (told script) (told images) ReadFault (λ v. tt)
+  none_complete orders WriteFault o r = absurd r
+  none_complete orders NoMemory o r = complete_free settings (told script) (told images) NoMemory (λ v. tt)
+  none_complete orders (JournalFull node) o r = absurd r
+  none_complete orders NotBuilt o r = complete_unbuilt settings (told script) (told images) orders r.0.users o r.0.users_are r.0.unbuilt
+  none_complete orders (BadSource line kind) o r = absurd r
+
+  orders_tell : (orders : List ScriptLine) (o : Option Run) (why : Why) → IsScriptOf settings.nodes (told script) orders → TellsOrders settings orders images sink o why → Tells settings script images sink o why
+  orders_tell orders (Some run) why s t = record { orders = orders; run_of = run_accepted orders run s t.0; printed = t.1 }
+  orders_tell orders None why s t = none_tells orders why s t
+
+  orders_complete : (orders : List ScriptLine) (o : Option Run) (why : Why) → IsScriptOf settings.nodes (told script) orders → TellsOrders settings orders images sink o why → IsComplete settings (told script) (told images) why
+  orders_complete orders (Some run) why s t =
+      complete_run settings (told script) (told images) orders t.0.users why (reported_follows sink (report_writes run orders settings.events) run why t.1) s t.0.users_are t.0.is.built
+  orders_complete orders None why s t = none_complete orders why s t
+
+  pub script_told : (orders : List ScriptLine) (ended : Ended) → IsScriptOf settings.nodes (told script) orders → Reads (SCRIPT_BYTES + 1) (told script) (tells_now script) false → TellsOrders settings orders images sink ended.run ended.why
+      → RunAnswers settings script images sink ended
+  script_told orders ended s reads t = record {
+    tells = orders_tell orders ended.run ended.why s t;
+    has_run = tells_has_run ended.run ended.why (orders_tell orders ended.run ended.why s t);
+    completeness = orders_complete orders ended.run ended.why s t;
+    reads = cut_or_not (SCRIPT_BYTES + 1) (told script) (tells_now script) (cuts_short ended.why) reads;
+  }
+
+  -- ---- all modes
+
+  pub in_mode : (m n : Mode) (ended : Ended) → m ≡ n → AnswersIn n settings script images sink ended → AnswersIn m settings script images sink ended
+  in_mode m n ended e h = subst (λ x. AnswersIn x settings script images sink ended) (sym e) h
+
+  memory_runs : (ended : Ended) (status : ℕ) → IsUntouched script → IsUntouched sink → ended ≡ record { status = status; why = NoMemory; run = None } → RunAnswers settings script images sink ended
+  memory_runs ended status same silent is = subst (RunAnswers settings script images sink) (sym is) (record {
+    tells = memory_tells silent;
+    has_run = refl;
+    completeness = complete_free settings (told script) (told images) NoMemory (λ v. tt);
+    reads = subst (λ x. Reads (SCRIPT_BYTES + 1) (told script) (script.tells x) true) (sym same) (none_read (SCRIPT_BYTES + 1) (told script));
+  })
+
+  memory_refuses : (only : Why) (ended : Ended) (status : ℕ) → IsUntouched script → IsUntouched images → IsUntouched sink → ended ≡ record { status = status; why = NoMemory; run = None } → Refuses only script images sink ended
+  memory_refuses only ended status same unread silent is = subst (Refuses only script images sink) (sym is) (record { why = inr refl; no_run = refl; unread = (same, unread); printed = silent })
+
+  memory_in : (m : Mode) (ended : Ended) (status : ℕ) → IsUntouched script → IsUntouched images → IsUntouched sink → ended ≡ record { status = status; why = NoMemory; run = None } → AnswersIn m settings script images sink ended
+  memory_in mode.Run ended status same unread silent is = memory_runs ended status same silent is
+  memory_in mode.Asm ended status same unread silent is = no_memory script images sink ended status same unread silent is
+  memory_in mode.Gen ended status same unread silent is = memory_refuses NotBuilt ended status same unread silent is
+
+module _ {S I O : Type 0} (script : Seen S (List ℕ)) (images : Seen I (List NamedFile)) (sink : Seen O (List ℕ)) where
+  pub memory_answers : (words : Option Settings) (ended : Ended) (status : ℕ) → IsUntouched script → IsUntouched images → IsUntouched sink → ended ≡ record { status = status; why = NoMemory; run = None } → Answers words script images sink ended
+  memory_answers None ended status same unread silent is = subst (Refuses BadWords script images sink) (sym is) (record { why = inr refl; no_run = refl; unread = (same, unread); printed = silent })
+  memory_answers (Some settings) ended status same unread silent is = memory_in settings script images sink settings.mode ended status same unread silent is
+
+  pub words_refused : (words : Option Settings) (ended : Ended) → words ≡ None → IsUntouched script → IsUntouched images → ended.run ≡ None → ((ended.why ≡ BadWords) ⊎ (ended.why ≡ NoMemory)) → WritesLine sink (line_of ended.why) → Answers words script images sink ended
+  words_refused words ended e same unread none why w = subst (λ o. Answers o script images sink ended) (sym e) (record { why = why; no_run = none; unread = (same, unread); printed = w })
+
+  pub words_told : (words : Option Settings) (settings : Settings) (ended : Ended) → words ≡ Some settings → AnswersIn settings.mode settings script images sink ended → Answers words script images sink ended
+  words_told words settings ended e h = subst (λ o. Answers o script images sink ended) (sym e) h

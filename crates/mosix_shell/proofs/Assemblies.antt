@@ -1,33 +1,30 @@
 -- What mode `asm` makes of a source's text, and what it writes.
 use Rattle.std.proofs.Common.{◌≡◌, ℕ, ◌+◌, ◌<◌, ◌≤◌, List, [], length, refl, ap, ◌∙◌, sym, subst, arith, Option, Some, None, Result, Ok, Err, true, false, cond, nat_lt, ◌⊎◌, inl, inr}
-use Rattle.std.proofs.lemmas.List.{take_all, length-take}
 use Rattle.std.proofs.lemmas.Bool.{cases_lt}
 use Rattle.std.proofs.lemmas.Bool.Decides.{nat_tests}
-use Rattle.outside.specs.Outside.{Appends, Rose}
-use Rattle.outside.specs.declared.traits.Failed.{Failed}
+use Rattle.outside.specs.Outside.{NamedFile, Rose}
 use Rattle.rv_asm.specs.Assembly.{assembled, assembled_lines, text_limit}
 use Rattle.rv_asm.specs.Lines.{lines_of}
 use Rattle.rv_asm.specs.declared.fault.Fault.{Fault}
 use Rattle.rv_asm.specs.declared.fault.FaultKind.TheVariants.{TooLong}
 use Rattle.asm_laws.proofs.Loads.{text_loads}
-use Rattle.mosix_shell.proofs.Readings.{still_read}
+use Rattle.shell_text.specs.Printing.{StopsBy}
+use Rattle.shell_text.specs.Report.{chunks_of}
+use Rattle.shell_text.specs.declared.writing.PrintFault.{PrintFault}
+use Rattle.shell_text.specs.declared.writing.PrintFault.TheVariants as print
+use Rattle.mosix_shell.proofs.Readings.{still_read, none_read}
 use Rattle.call_table.specs.declared.limit.TheConstants.{SOURCE_BYTES}
-use Rattle.mosix_shell.specs.Reading.{IsReadTo, Reads}
-use Rattle.mosix_shell.specs.Told.{Seen}
-use Rattle.mosix_shell.specs.Why.{text_of, cuts_short}
-use Rattle.mosix_shell.specs.Writing.{Writes}
+use Rattle.mosix_shell.specs.Reading.{IsReadPast, Reads}
+use Rattle.mosix_shell.specs.Told.{Seen, IsTextOf, told, tells_now, HasRisen, IsUntouched}
+use Rattle.mosix_shell.specs.Why.{line_of, cuts_short}
+use Rattle.mosix_shell.specs.Writing.{WritesAll, WritesFront, WritesLine}
 use Rattle.mosix_shell.specs.Answers.{AsmAnswers}
 use Rattle.mosix_shell.specs.declared.mosix.Ended.{Ended}
-use Rattle.mosix_shell.specs.Assembling.{IsReadPast, IsMadeOf, IsFaultOf, IsMadeFrom, WritesFile, IsAssembly}
+use Rattle.mosix_shell.specs.Assembling.{IsMadeOf, IsFaultOf, IsMadeFrom, IsFileOf, WritesFile, IsAssembly}
 use Rattle.mosix_shell.specs.declared.why.Why.{Why}
-use Rattle.mosix_shell.specs.declared.why.Why.TheVariants.{Done, BadWords, BadImage, ReadFault, WriteFault, NoMemory, NotBuilt, BadSource}
+use Rattle.mosix_shell.specs.declared.why.Why.TheVariants.{Done, Stuck, BadWords, BadScript, BadImage, ReadFault, WriteFault, NoMemory, JournalFull, NotBuilt, BadSource}
 
 -- ---- the text
-
-pub read_past : (limit : ℕ) (left now : Option (List ℕ)) (bytes : List ℕ) → IsReadTo (limit + 1) left now bytes → IsReadPast limit left bytes
-read_past limit None now bytes h = tt
-read_past limit (Some left) now bytes h =
-    ((λ short. h.0 ∙ take_all (limit + 1) left (omega (arith, short))), (λ long. omega (arith, long, length-take (limit + 1) left, ap length h.0)))
 
 not_long : (n : ℕ) → text_limit < n → nat_lt text_limit n ≡ true
 not_long n h = grind (arith, nat_tests)
@@ -54,37 +51,44 @@ made_nothing (Some left) why h = record { text = left; text_is = refl; made_is =
 
 -- ---- what is written
 
--- an answer that has no run writes its line
-fault_writes : (text : List ℕ) (old new : Seen (List ℕ)) (why : Why) → IsFaultOf (assembled text) why → Writes old new (text_of why) → WritesFile text old new why
-fault_writes text old new (BadSource line kind) f w = (f, w)
-fault_writes text old new ReadFault f w = w
-fault_writes text old new NoMemory f w = w
-fault_writes text old new Done f w = absurd f
-fault_writes text old new BadWords f w = absurd f
-fault_writes text old new (BadImage line kind) f w = absurd f
-fault_writes text old new WriteFault f w = absurd f
-fault_writes text old new NotBuilt f w = absurd f
+module _ {O : Type 0} (sink : Seen O (List ℕ)) where
+  -- an answer without a file writes its line
+  fault_writes : (text : List ℕ) (why : Why) → IsFaultOf (assembled text) why → WritesLine sink (line_of why) → WritesFile text sink why
+  fault_writes text (BadSource line kind) f w = (f, w)
+  fault_writes text ReadFault f w = w
+  fault_writes text NoMemory f w = w
+  fault_writes text Done f w = absurd f
+  fault_writes text Stuck f w = absurd f
+  fault_writes text BadWords f w = absurd f
+  fault_writes text (BadScript line kind) f w = absurd f
+  fault_writes text (BadImage line kind) f w = absurd f
+  fault_writes text WriteFault f w = absurd f
+  fault_writes text (JournalFull node) f w = absurd f
+  fault_writes text NotBuilt f w = absurd f
 
-refused_or : (text : List ℕ) (old new : Seen (List ℕ)) (why told : Why) → IsFaultOf (assembled text) why → ((told ≡ why) ⊎ (told ≡ NoMemory)) → Writes old new (text_of told) → WritesFile text old new told
-refused_or text old new why told f (inl e) w = fault_writes text old new told (subst (IsFaultOf (assembled text)) (sym e) f) w
-refused_or text old new why told f (inr e) w = subst (WritesFile text old new) (sym e) (subst (λ y. Writes old new (text_of y)) e w)
+  refused_or : (text : List ℕ) (why told : Why) → IsFaultOf (assembled text) why → ((told ≡ why) ⊎ (told ≡ NoMemory)) → WritesLine sink (line_of told) → WritesFile text sink told
+  refused_or text why told f (inl e) w = fault_writes text told (subst (IsFaultOf (assembled text)) (sym e) f) w
+  refused_or text why told f (inr e) w = subst (WritesFile text sink) (sym e) (subst (λ y. WritesLine sink (line_of y)) e w)
 
-refused_file : (left : Option (List ℕ)) (old new : Seen (List ℕ)) (why told : Why) → IsMadeFrom left (Err why) → ((told ≡ why) ⊎ (told ≡ NoMemory)) → Writes old new (text_of told) → IsAssembly left old new told
-refused_file left old new why told m e w = record { text = m.text; text_is = m.text_is; written = refused_or m.text old new why told m.made_is e w }
+  refused_file : (left : Option (List ℕ)) (why told : Why) → IsMadeFrom left (Err why) → ((told ≡ why) ⊎ (told ≡ NoMemory)) → WritesLine sink (line_of told) → IsAssembly left sink told
+  refused_file left why told m e w = record { text = m.text; text_is = m.text_is; written = refused_or m.text why told m.made_is e w }
 
-wrote_file : (left : Option (List ℕ)) (old new : Seen (List ℕ)) (file given : List ℕ) (u : Unit {0}) → IsMadeFrom left (Ok file) → given ≡ file → Appends old.told new.told given (Ok u) → IsAssembly left old new Done
-wrote_file left old new file given u m same a = record {
-  text = m.text;
-  text_is = m.text_is;
-  written = (file, m.made_is, text_loads m.text file m.made_is, subst (λ x. Appends old.told new.told x (Ok u)) same a);
-}
+  file_of : (left : Option (List ℕ)) (file : List ℕ) (m : IsMadeFrom left (Ok file)) → IsFileOf m.text file
+  file_of left file m = record { assembled_is = m.made_is; loads = text_loads m.text file m.made_is }
 
-wrote_front : (left : Option (List ℕ)) (old new : Seen (List ℕ)) (file given : List ℕ) (f : Failed) → IsMadeFrom left (Ok file) → given ≡ file → Appends old.told new.told given (Err f) → Rose old.faults new.faults → IsAssembly left old new WriteFault
-wrote_front left old new file given f m same a rose = record {
-  text = m.text;
-  text_is = m.text_is;
-  written = (file, m.made_is, text_loads m.text file m.made_is, record { failed = f; front = subst (λ x. Appends old.told new.told x (Err f)) same a; cause = rose });
-}
+  wrote_file : (left : Option (List ℕ)) (file given : List ℕ) → IsMadeFrom left (Ok file) → given ≡ file → WritesAll sink (chunks_of given) → IsAssembly left sink Done
+  wrote_file left file given m same a = record {
+    text = m.text;
+    text_is = m.text_is;
+    written = (file, file_of left file m, subst (λ x. WritesAll sink (chunks_of x)) same a);
+  }
+
+  wrote_front : (left : Option (List ℕ)) (file given : List ℕ) → IsMadeFrom left (Ok file) → given ≡ file → WritesFront sink (chunks_of given) → IsAssembly left sink WriteFault
+  wrote_front left file given m same a = record {
+    text = m.text;
+    text_is = m.text_is;
+    written = (file, file_of left file m, subst (λ x. WritesFront sink (chunks_of x)) same a);
+  }
 
 -- ---- what the mode promises
 
@@ -92,35 +96,56 @@ fault_told : (why told : Why) (before now : ℕ) → (why ≡ ReadFault → Rose
 fault_told why told before now h (inl e) is = h (sym e ∙ is)
 fault_told why told before now h (inr e) is = let x : NoMemory ≡ ReadFault = sym e ∙ is in cc
 
-pub refused : (source left old new : Seen (List ℕ)) (ended : Ended) (why : Why) → ended.run ≡ None → ((ended.why ≡ why) ⊎ (ended.why ≡ NoMemory)) → IsMadeFrom source.told (Err why)
-    → Reads (SOURCE_BYTES + 1) source.told left.told (cuts_short why) → (why ≡ ReadFault → Rose source.faults left.faults) → Writes old new (text_of ended.why) → AsmAnswers source left old new ended
-refused source left old new ended why none told m reads fault w = record {
-  no_run = none;
-  assembly = refused_file source.told old new why ended.why m told w;
-  reads = still_read (SOURCE_BYTES + 1) source.told left.told why ended.why reads told;
-  read_fault = fault_told why ended.why source.faults left.faults fault told;
-}
-
 done_no_fault : {A : Type 0} → Done ≡ ReadFault → A
 done_no_fault h = cc
 
 write_no_fault : {A : Type 0} → WriteFault ≡ ReadFault → A
 write_no_fault h = cc
 
-pub wrote : (source left old new : Seen (List ℕ)) (ended : Ended) (status : ℕ) (file given : List ℕ) (u : Unit {0}) → ended ≡ record { status = status; why = Done; run = None } → IsMadeFrom source.told (Ok file)
-    → Reads (SOURCE_BYTES + 1) source.told left.told false → given ≡ file → Appends old.told new.told given (Ok u) → AsmAnswers source left old new ended
-wrote source left old new ended status file given u is m reads same a = subst (AsmAnswers source left old new) (sym is) (record {
-  no_run = refl;
-  assembly = wrote_file source.told old new file given u m same a;
-  reads = reads;
-  read_fault = λ h. done_no_fault h;
-})
+memory_no_fault : {A : Type 0} → NoMemory ≡ ReadFault → A
+memory_no_fault h = cc
 
-pub wrote_part : (source left old new : Seen (List ℕ)) (ended : Ended) (status : ℕ) (file given : List ℕ) (f : Failed) → ended ≡ record { status = status; why = WriteFault; run = None } → IsMadeFrom source.told (Ok file)
-    → Reads (SOURCE_BYTES + 1) source.told left.told false → given ≡ file → Appends old.told new.told given (Err f) → Rose old.faults new.faults → AsmAnswers source left old new ended
-wrote_part source left old new ended status file given f is m reads same a rose = subst (AsmAnswers source left old new) (sym is) (record {
-  no_run = refl;
-  assembly = wrote_front source.told old new file given f m same a rose;
-  reads = reads;
-  read_fault = λ h. write_no_fault h;
-})
+some_text : (left : Option (List ℕ)) → (text : List ℕ) × IsTextOf left text
+some_text None = ([], tt)
+some_text (Some left) = (left, refl)
+
+module _ {S I O : Type 0} (text : Seen S (List ℕ)) (images : Seen I (List NamedFile)) (sink : Seen O (List ℕ)) where
+  pub refused : (ended : Ended) (why : Why) → IsUntouched images → ended.run ≡ None → ((ended.why ≡ why) ⊎ (ended.why ≡ NoMemory)) → IsMadeFrom (told text) (Err why)
+      → Reads (SOURCE_BYTES + 1) (told text) (tells_now text) (cuts_short why) → (why ≡ ReadFault → HasRisen text) → WritesLine sink (line_of ended.why) → AsmAnswers text images sink ended
+  refused ended why unread none is m reads fault w = record {
+    no_run = none;
+    assembly = refused_file sink (told text) why ended.why m is w;
+    reads = still_read (SOURCE_BYTES + 1) (told text) (tells_now text) why ended.why reads is;
+    unread = unread;
+    read_fault = fault_told why ended.why (text.faults text.old) (text.faults text.new) fault is;
+  }
+
+  pub wrote : (ended : Ended) (status : ℕ) (file given : List ℕ) → IsUntouched images → ended ≡ record { status = status; why = Done; run = None } → IsMadeFrom (told text) (Ok file)
+      → Reads (SOURCE_BYTES + 1) (told text) (tells_now text) false → given ≡ file → WritesAll sink (chunks_of given) → AsmAnswers text images sink ended
+  wrote ended status file given unread is m reads same a = subst (AsmAnswers text images sink) (sym is) (record {
+    no_run = refl;
+    assembly = wrote_file sink (told text) file given m same a;
+    reads = reads;
+    unread = unread;
+    read_fault = λ h. done_no_fault h;
+  })
+
+  pub wrote_part : (ended : Ended) (status : ℕ) (file given : List ℕ) (e : PrintFault) → IsUntouched images → ended ≡ record { status = status; why = WriteFault; run = None } → IsMadeFrom (told text) (Ok file)
+      → Reads (SOURCE_BYTES + 1) (told text) (tells_now text) false → given ≡ file → e ≡ print.Failed → StopsBy sink.tells sink.faults (chunks_of given) sink.old sink.new e → AsmAnswers text images sink ended
+  wrote_part ended status file given e unread is m reads same f a = subst (AsmAnswers text images sink) (sym is) (record {
+    no_run = refl;
+    assembly = wrote_front sink (told text) file given m same (subst (StopsBy sink.tells sink.faults (chunks_of given) sink.old sink.new) f a);
+    reads = reads;
+    unread = unread;
+    read_fault = λ h. write_no_fault h;
+  })
+
+  -- want of memory before anything was read
+  pub no_memory : (ended : Ended) (status : ℕ) → IsUntouched text → IsUntouched images → IsUntouched sink → ended ≡ record { status = status; why = NoMemory; run = None } → AsmAnswers text images sink ended
+  no_memory ended status same unread silent is = subst (AsmAnswers text images sink) (sym is) (record {
+    no_run = refl;
+    assembly = record { text = (some_text (told text)).0; text_is = (some_text (told text)).1; written = silent };
+    reads = subst (λ x. Reads (SOURCE_BYTES + 1) (told text) (text.tells x) true) (sym same) (none_read (SOURCE_BYTES + 1) (told text));
+    unread = unread;
+    read_fault = λ h. memory_no_fault h;
+  })

@@ -7,13 +7,12 @@ use Rattle.mosix_shell.specs.ScriptLaw.{ScriptLaw, command_count}
 use Rattle.mosix_shell.specs.OnceLaw.{OnceLaw, AreGivenBack}
 use Rattle.mosix_shell.specs.declared.phase.Phase.{Phase}
 use Rattle.mosix_shell.specs.declared.phase.Phase.TheVariants.{Goes}
-use Rattle.mosix_shell.specs.Script.{script_of}
 use Rattle.mosix_shell.specs.Turns.{Story, story_of, first_event, first_moment, quantum_steps, later_events}
 use Rattle.mosix_shell.specs.Running.{IsRunOfStory}
 use Rattle.mosix_shell.specs.Headline.{Replays, IsLawful}
 use Rattle.mosix_shell.specs.OnePlace.{OnePlace}
-use Rattle.mosix_shell.specs.declared.run.Run.{Run}
-use Rattle.mosix_shell.proofs.Stories.{Kept, IsTold, IsFinished, story_told, start_kept, finished}
+use Rattle.shell_text.specs.declared.run.Run.{Run}
+use Rattle.mosix_shell.proofs.Stories.{Kept, IsTold, IsFinished, story_told, start_kept, finished, script_of}
 use Rattle.mosix_shell.proofs.Replaying.{replay}
 
 replays_by : (setup : List UserState) (script : List ScriptLine) (run : Run) (s : Story) → IsRunOfStory run s → machine_of setup script s.history ≡ Some s.last.machine → IsFinished s.last → Replays setup script run
@@ -46,15 +45,16 @@ some_quantum : 1 ≤ quantum_steps
 unfolding quantum_steps
 some_quantum = omega arith
 
-story_is_told : (u : UserState) (name : List ℕ) → IsTold quantum_steps (u ∷ []) (script_of name) (story_of u)
-story_is_told u name = story_told quantum_steps later_events (u ∷ []) (script_of name) (first_event ∷ []) (first_moment u) some_quantum (start_kept quantum_steps u name)
+story_is_told : (line : ℕ) (u : UserState) (words : List (List ℕ)) → IsTold quantum_steps (u ∷ []) (script_of line words) (story_of line u)
+story_is_told line u words =
+    story_told quantum_steps later_events (u ∷ []) (script_of line words) (first_event line ∷ []) (first_moment u) some_quantum (start_kept quantum_steps line u words)
 
-pub replays : (run : Run) (u : UserState) (name : List ℕ) → IsRunOfStory run (story_of u) → Replays (u ∷ []) (script_of name) run
-replays run u name r =
-    let t = story_is_told u name in
-    replays_by (u ∷ []) (script_of name) run (story_of u) r t.kept.told.plays (finished quantum_steps (u ∷ []) (script_of name) (story_of u) t r.ended)
+pub replays : (run : Run) (line : ℕ) (u : UserState) (words : List (List ℕ)) → IsRunOfStory run (story_of line u) → Replays (u ∷ []) (script_of line words) run
+replays run line u words r =
+    let t = story_is_told line u words in
+    replays_by (u ∷ []) (script_of line words) run (story_of line u) r t.kept.told.plays (finished quantum_steps (u ∷ []) (script_of line words) (story_of line u) t r.ended)
 
-pub lawful : (run : Run) (u : UserState) (name : List ℕ) → IsRunOfStory run (story_of u) → IsLawful quantum_steps (u ∷ []) (script_of name) run
-lawful run u name r =
-    let t = story_is_told u name in
-    lawful_by (u ∷ []) (script_of name) run (story_of u) (sym r.history) t.kept (finished quantum_steps (u ∷ []) (script_of name) (story_of u) t r.ended).goes
+pub lawful : (run : Run) (line : ℕ) (u : UserState) (words : List (List ℕ)) → IsRunOfStory run (story_of line u) → IsLawful quantum_steps (u ∷ []) (script_of line words) run
+lawful run line u words r =
+    let t = story_is_told line u words in
+    lawful_by (u ∷ []) (script_of line words) run (story_of line u) (sym r.history) t.kept (finished quantum_steps (u ∷ []) (script_of line words) (story_of line u) t r.ended).goes

@@ -1,6 +1,4 @@
 pub mod Truth
-pub mod Written
-pub mod Ascii
 pub mod Walks
 pub mod Telling
 pub mod Kernels
@@ -9,7 +7,10 @@ pub mod Stories
 pub mod Replaying
 pub mod Headlines
 pub mod Turning
-pub mod Verdicts
-pub mod Assemblies
 pub mod Readings
+pub mod Scripts
+pub mod Loading
+pub mod Stages
+pub mod Assemblies
 pub mod Answering
+pub mod Causing

@@ -160,5 +160,5 @@ none_placed = record {
 other_than_one : (p : ℕ) → p ≢ 1 → (1 == p) ≡ false
 other_than_one p h = grind (arith, nat_tests)
 
-pub home_start : (u : UserState) → IsHome (first_event ∷ []) (first_moment u)
-home_start u = record { first = refl; others = λ p other. ap (λ b. cond b (At 0 ∷ []) []) (other_than_one p other) }
+pub home_start : (line : ℕ) (u : UserState) → IsHome (first_event line ∷ []) (first_moment u)
+home_start line u = record { first = refl; others = λ p other. ap (λ b. cond b (At 0 ∷ []) []) (other_than_one p other) }

@@ -1,14 +1,14 @@
 -- How many bytes a reading takes.
 use Rattle.std.proofs.Common.{◌≡◌, ◌⊎◌, inl, inr, ℕ, ◌+◌, ◌≤◌, List, ◌++◌, length, drop, refl, ap, ◌∙◌, sym, subst, arith, Option, Some, None, Ok, Err, Bool, true, false}
 use Rattle.std.specs.Option.{option_map}
-use Rattle.std.proofs.lemmas.List.{drop_at, drop-drop}
+use Rattle.std.proofs.lemmas.List.{drop_at, drop-drop, take_all, length-take}
 use Rattle.outside.specs.Outside.{Takes}
 use Rattle.outside.specs.declared.traits.Failed.{Failed}
 use Rattle.mosix_shell.specs.Why.{cuts_short}
 use Rattle.mosix_shell.specs.declared.why.Why.{Why}
 use Rattle.mosix_shell.specs.declared.why.Why.TheVariants.{NoMemory}
 use Rattle.mosix_shell.proofs.Truth.{true_false}
-use Rattle.mosix_shell.specs.Reading.{IsReadOn, IsReadTo, Reads}
+use Rattle.mosix_shell.specs.Reading.{IsReadOn, IsReadPast, IsReadTo, Reads}
 
 -- what was read stands before what is left
 behind : (left bytes rest : List ℕ) → left ≡ bytes ++ rest → drop (length bytes) left ≡ rest
@@ -46,9 +46,23 @@ cut_behind most n (Some left) (Some rest) now bytes into so few t = record {
   whole = λ h. true_false h;
 }
 
+nothing_taken : (left : Option (List ℕ)) → left ≡ option_map (drop 0) left
+nothing_taken None = refl
+nothing_taken (Some left) = refl
+
 rest_of : (most : ℕ) (left now : Option (List ℕ)) (bytes : List ℕ) → IsReadTo most left now bytes → now ≡ option_map (drop most) left
 rest_of most None now bytes h = h
 rest_of most (Some left) now bytes h = h.1
+
+-- what was read to the byte behind a limit
+pub read_past : (limit : ℕ) (left now : Option (List ℕ)) (bytes : List ℕ) → IsReadTo (limit + 1) left now bytes → IsReadPast limit left bytes
+read_past limit None now bytes h = tt
+read_past limit (Some left) now bytes h =
+    ((λ short. h.0 ∙ take_all (limit + 1) left (omega (arith, short))), (λ long. omega (arith, long, length-take (limit + 1) left, ap length h.0)))
+
+-- nothing was read
+pub none_read : (most : ℕ) (left : Option (List ℕ)) → Reads most left left true
+none_read most left = record { taken = 0; few = omega arith; rest = nothing_taken left; whole = λ h. true_false h }
 
 pub all_read : (most : ℕ) (left now : Option (List ℕ)) (bytes : List ℕ) → IsReadTo most left now bytes → Reads most left now false
 all_read most left now bytes h = record { taken = most; few = omega arith; rest = rest_of most left now bytes h; whole = λ e. refl }

@@ -1,27 +1,30 @@
 -- A whole run keeps what its history tells, and where the process has ended, every process has.
-use Rattle.std.proofs.Common.{◌≡◌, ℕ, zero, suc, ◌≤◌, List, [], ◌∷◌, length, refl, ap, ◌∙◌, sym, arith, Option, Some, None, Bool, true, false, cond, nat_eq, ◌==◌, is_some}
+use Rattle.std.proofs.Common.{◌≡◌, ℕ, zero, suc, ◌≤◌, List, [], ◌∷◌, length, refl, ap, ◌∙◌, sym, subst, arith, Option, Some, None, Bool, true, false, cond, nat_eq, ◌==◌, is_some}
 use Rattle.std.specs.Option.{option_and_then}
 use Rattle.std.proofs.lemmas.Option.{none-some}
+use Rattle.std.proofs.lemmas.Bool.Decides.{nat_tests}
 use Rattle.node_event.specs.declared.event.Event.{Event}
 use Rattle.node_event.specs.declared.event.What.{What}
 use Rattle.node_event.specs.declared.event.What.TheVariants.{Steps, Sent, Got}
+use Rattle.node_event.specs.declared.script.Order.TheVariants.{Run}
 use Rattle.node_event.specs.declared.script.ScriptLine.{ScriptLine}
 use Rattle.user_spec.specs.User.{UserState}
 use Rattle.user_spec.specs.Advance.{Walk, quantum_of, request_of, asked_number}
-use Rattle.one_node.specs.Machine.{MachineState, live_user, ended_of, with_user, HaveEnded, value_gained}
+use Rattle.one_node.specs.Machine.{MachineState, start, played, live_user, ended_of, with_user, HaveEnded, value_gained}
 use Rattle.kernel_spec.specs.Kernel.{given, is_live}
 use Rattle.kernel_spec.specs.Pids.{at_pid}
 use Rattle.kernel_spec.proofs.PidLemmas.{length-set_pid}
-use Rattle.mosix_shell.specs.OnceLaw.{number_asked, way_for}
+use Rattle.mosix_shell.specs.OnceLaw.{OnceAt, phase_of, number_asked, way_for}
 use Rattle.mosix_shell.specs.declared.phase.Phase.{Phase}
 use Rattle.mosix_shell.specs.declared.phase.Phase.TheVariants.{Goes, Waits, IsServed}
 use Rattle.mosix_shell.specs.Turns.{Moment, Turned, Makes, IsOver, IsUnbuilt, turn_of, turn_in, go_turn, sent_turn, steps_turn, served_turn, served_what, served_machine, event_after, first_event, first_moment, Story, story, told_by, is_over}
-use Rattle.mosix_shell.specs.Script.{script_of}
 use Rattle.mosix_shell.proofs.Walks.{IsWalk, quantum_is}
 use Rattle.mosix_shell.proofs.Telling.{Told, told_steps, told_sent, told_served, told_got}
 use Rattle.mosix_shell.specs.OnePlace.{OnePlace}
 use Rattle.mosix_shell.proofs.Kernels.{served_keeps}
-use Rattle.mosix_shell.proofs.Truth.{true_false}
+use Rattle.mosix_shell.specs.History.{machine_of}
+use Rattle.mosix_shell.specs.Schedule.{setup_of, launch_of}
+use Rattle.mosix_shell.proofs.Truth.{false_true, true_false}
 use Rattle.mosix_shell.proofs.Placing.{IsHome, past_live, placed_in, home_steps, home_sent, home_served, home_got, none_placed, home_start}
 
 -- what was sent is what the process asks
@@ -126,21 +129,33 @@ story_told q (suc n) setup script es now low k =
 
 -- ---- the start
 
-pub start_kept : (q : ℕ) (u : UserState) (name : List ℕ) → Kept q (u ∷ []) (script_of name) (first_event ∷ []) (first_moment u)
-start_kept q u name = record {
+-- a line of this number that launches, alone
+abbrev pub script_of : ℕ → List (List ℕ) → List ScriptLine
+script_of line words = record { line = line; order = Run words } ∷ []
+
+-- the line's number is found
+line_found : (line n : ℕ) (words : List (List ℕ)) (u : UserState) (b : Bool) → b ≡ true → played (setup_of (u ∷ [])) (cond b (launch_of n (Run words)) []) start ≡ played (setup_of (u ∷ [])) (launch_of n (Run words)) start
+line_found line n words u true e = refl
+line_found line n words u false e = false_true e
+
+plays_start : (line : ℕ) (u : UserState) (words : List (List ℕ)) → machine_of (u ∷ []) (script_of line words) (first_event line ∷ []) ≡ Some (first_moment u).machine
+plays_start line u words = line_found line 0 words u (line == line) (grind (arith, nat_tests))
+
+pub start_kept : (q line : ℕ) (u : UserState) (words : List (List ℕ)) → Kept q (u ∷ []) (script_of line words) (first_event line ∷ []) (first_moment u)
+start_kept q line u words = record {
   told = record {
-    plays = refl;
+    plays = plays_start line u words;
     phases = λ p. elim (nat_eq 1 p) as (λ b. Goes ≡ cond b Goes Goes) [ true ↦ refl | false ↦ refl ];
     stamped = (refl, refl, tt);
     scripted = ((refl, refl, refl, refl), tt);
     commands = refl;
-    once = (tt, tt);
+    once = (subst (λ o. OnceAt q (λ p. phase_of p []) (Some start) o (first_event line).what) (sym (plays_start line u words)) tt, tt);
   };
   single = refl;
   context = refl;
   asked = tt;
-  home = home_start u;
-  one_place = (placed_in (u ∷ []) (script_of name) (first_event ∷ []) (first_moment u) refl refl (home_start u), none_placed);
+  home = home_start line u;
+  one_place = (placed_in (u ∷ []) (script_of line words) (first_event line ∷ []) (first_moment u) (plays_start line u words) refl (home_start line u), none_placed);
 }
 
 -- ---- the end

@@ -25,7 +25,7 @@ use Rattle.mosix_shell.specs.declared.phase.Phase.TheVariants.{Goes, Waits, IsSe
 use Rattle.one_node.specs.declared.going.Ran.TheVariants as ran
 use Rattle.mosix_shell.specs.Turns.{Moment, Makes, IsOver, IsUnbuilt, turn_of, go_turn, sent_turn, steps_turn, is_built, served_machine, serve_turn, served_turn, event_after, Story, story, story_of, told_by, is_over, quantum_steps, later_events, first_event, first_moment}
 use Rattle.mosix_shell.specs.Running.{EndsAs, Finishes, IsRunOfStory}
-use Rattle.mosix_shell.specs.declared.run.Run.{Run}
+use Rattle.shell_text.specs.declared.run.Run.{Run}
 use Rattle.one_node.specs.declared.going.Ran.{Ran}
 
 -- ---- the process goes
@@ -210,8 +210,8 @@ pub all_left : (es : List Event) (now : Moment) → story quantum_steps (262143 
 all_left es now = ap (λ n. story quantum_steps n es now) (sym events_are)
 
 -- the story from the launch is the story of the process
-pub from_launch : (u : UserState) (home : MachineState) (es : List Event) → home ≡ (first_moment u).machine → es ≡ first_event ∷ [] → story quantum_steps later_events es (record { machine = home; phase = Goes }) ≡ story_of u
-from_launch u home es is e =
+pub from_launch : (line : ℕ) (u : UserState) (home : MachineState) (es : List Event) → home ≡ (first_moment u).machine → es ≡ first_event line ∷ [] → story quantum_steps later_events es (record { machine = home; phase = Goes }) ≡ story_of line u
+from_launch line u home es is e =
     ap (λ m. story quantum_steps later_events es (record { machine = m; phase = Goes })) is ∙ ap (λ xs. story quantum_steps later_events xs (first_moment u)) e
 
 some_same : {A : Type 0} (x y : A) → ◌≡◌ {A = Option A} (Some x) (Some y) → x ≡ y
@@ -221,8 +221,8 @@ pub launched_home : (home first : MachineState) (o : Option MachineState) → o 
 launched_home home first o is here = some_same home first (sym here ∙ is)
 
 -- a run that is over, and one that is not
-pub ended_run : (run : Run) (u : UserState) (all : Story) (m : MachineState) (events : List Event) → all ≡ story_of u → EndsAs true all m events → Finishes run m events → IsRunOfStory run (story_of u)
-ended_run run u all m events is e f =
+pub ended_run : (run : Run) (line : ℕ) (u : UserState) (all : Story) (m : MachineState) (events : List Event) → all ≡ story_of line u → EndsAs true all m events → Finishes run m events → IsRunOfStory run (story_of line u)
+ended_run run line u all m events is e f =
     let own : Finishes run m run.events = record { events_are = refl; statuses_are = f.statuses_are; terminal_is = f.terminal_is; files_are = f.files_are; replies_are = f.replies_are; done = f.done } in
     let told : Finishes run all.last.machine run.events = subst (λ (x : MachineState). Finishes run x run.events) (sym e.2) own in
     record {
@@ -231,5 +231,5 @@ ended_run run u all m events is e f =
       told = subst (λ (x : Story). Finishes run x.last.machine run.events) is told;
     }
 
-pub unended : (u : UserState) (all : Story) → all ≡ story_of u → all.ended ≡ false → (story_of u).ended ≡ false
-unended u all is h = ap (λ (x : Story). x.ended) (sym is) ∙ h
+pub unended : (line : ℕ) (u : UserState) (all : Story) → all ≡ story_of line u → all.ended ≡ false → (story_of line u).ended ≡ false
+unended line u all is h = ap (λ (x : Story). x.ended) (sym is) ∙ h

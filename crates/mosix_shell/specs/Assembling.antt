@@ -1,24 +1,16 @@
 -- Mode `asm`: what a source's text comes to, and what is written.
-use Rattle.std.specs.Prelude.{◌≡◌, ◌≤◌, ◌<◌, ℕ, List, length, Option, Some, None, Result, Ok, Err}
+use Rattle.std.specs.Prelude.{◌≡◌, ℕ, List, Option, Result, Ok, Err}
 use Rattle.rv_asm.specs.Assembly.{assembled}
 use Rattle.rv_asm.specs.Refusals.{IsRefusal}
 use Rattle.asm_laws.specs.Loaded.{LoadsAs}
 use Rattle.rv_asm.specs.declared.fault.Fault.{Fault}
 use Rattle.rv_asm.specs.declared.fault.AsmError.TheVariants.{Source}
-use Rattle.mosix_shell.specs.Told.{Seen, WhereTold}
-use Rattle.mosix_shell.specs.Why.{text_of}
-use Rattle.mosix_shell.specs.Writing.{WritesAll, WritesFront, Writes}
+use Rattle.shell_text.specs.Report.{chunks_of}
+use Rattle.mosix_shell.specs.Told.{Seen, IsTextOf, IsUntouched}
+use Rattle.mosix_shell.specs.Why.{line_of}
+use Rattle.mosix_shell.specs.Writing.{WritesAll, WritesFront, WritesLine}
 use Rattle.mosix_shell.specs.declared.why.Why.{Why}
-use Rattle.mosix_shell.specs.declared.why.Why.TheVariants.{Done, BadWords, BadImage, ReadFault, WriteFault, NoMemory, NotBuilt, BadSource}
-
--- what was read of a source, where it tells: all of it, or more than the limit
-abbrev pub IsReadPast : ℕ → Option (List ℕ) → List ℕ → Type 0
-IsReadPast limit None bytes = Unit {0}
-IsReadPast limit (Some left) bytes = (length left ≤ limit → bytes ≡ left) × (limit < length left → limit < length bytes)
-
--- the text is that of the source
-abbrev pub IsTextOf : Option (List ℕ) → List ℕ → Type 0
-IsTextOf left text = WhereTold left (λ bytes. text ≡ bytes)
+use Rattle.mosix_shell.specs.declared.why.Why.TheVariants.{Done, Stuck, BadWords, BadScript, BadImage, ReadFault, WriteFault, NoMemory, JournalFull, NotBuilt, BadSource}
 
 -- the text's first fault, unless the source failed or memory was wanting
 abbrev pub IsFaultOf : Result (List ℕ) Fault → Why → Type 0
@@ -26,9 +18,12 @@ IsFaultOf outcome (BadSource line kind) = IsRefusal outcome (Source line kind)
 IsFaultOf outcome ReadFault = Unit {0}
 IsFaultOf outcome NoMemory = Unit {0}
 IsFaultOf outcome Done = ⊥
+IsFaultOf outcome Stuck = ⊥
 IsFaultOf outcome BadWords = ⊥
+IsFaultOf outcome (BadScript line kind) = ⊥
 IsFaultOf outcome (BadImage line kind) = ⊥
 IsFaultOf outcome WriteFault = ⊥
+IsFaultOf outcome (JournalFull node) = ⊥
 IsFaultOf outcome NotBuilt = ⊥
 
 -- the text's file, or why there is none
@@ -42,19 +37,27 @@ pub record IsMadeFrom (left : Option (List ℕ)) (made : Result (List ℕ) Why) 
   pub text_is : IsTextOf left text
   pub made_is : IsMadeOf (assembled text) made
 
--- all of the file at Done, a front of it at a write fault, else the answer's line. The file loads to the state of its text
-abbrev pub WritesFile : List ℕ → Seen (List ℕ) → Seen (List ℕ) → Why → Type 0
-WritesFile text old new Done = (file : List ℕ) × (assembled text ≡ Ok file) × LoadsAs text file × WritesAll old new file
-WritesFile text old new WriteFault = (file : List ℕ) × (assembled text ≡ Ok file) × LoadsAs text file × WritesFront old new file
-WritesFile text old new (BadSource line kind) = IsRefusal (assembled text) (Source line kind) × Writes old new (text_of (BadSource line kind))
-WritesFile text old new ReadFault = Writes old new (text_of ReadFault)
-WritesFile text old new NoMemory = Writes old new (text_of NoMemory)
-WritesFile text old new BadWords = ⊥
-WritesFile text old new (BadImage line kind) = ⊥
-WritesFile text old new NotBuilt = ⊥
+-- the text's file, which loads to the state of the text
+pub record IsFileOf (text file : List ℕ) : Type 0 where
+  pub assembled_is : assembled text ≡ Ok file
+  pub loads : LoadsAs text file
+
+-- all of the file at Done, a front of it at a write fault, in pieces of at most 65,536 bytes; else the answer's line
+abbrev pub WritesFile : {O : Type 0} → List ℕ → Seen O (List ℕ) → Why → Type 0
+WritesFile text sink Done = (file : List ℕ) × IsFileOf text file × WritesAll sink (chunks_of file)
+WritesFile text sink WriteFault = (file : List ℕ) × IsFileOf text file × WritesFront sink (chunks_of file)
+WritesFile text sink (BadSource line kind) = IsRefusal (assembled text) (Source line kind) × WritesLine sink (line_of (BadSource line kind))
+WritesFile text sink ReadFault = WritesLine sink (line_of ReadFault)
+WritesFile text sink NoMemory = IsUntouched sink
+WritesFile text sink Stuck = ⊥
+WritesFile text sink BadWords = ⊥
+WritesFile text sink (BadScript line kind) = ⊥
+WritesFile text sink (BadImage line kind) = ⊥
+WritesFile text sink (JournalFull node) = ⊥
+WritesFile text sink NotBuilt = ⊥
 
 -- the answer of a source's text: by `assembled`
-pub record IsAssembly (left : Option (List ℕ)) (old new : Seen (List ℕ)) (why : Why) : Type 0 where
+pub record IsAssembly {O : Type 0} (left : Option (List ℕ)) (sink : Seen O (List ℕ)) (why : Why) : Type 0 where
   pub text : List ℕ
   pub text_is : IsTextOf left text
-  pub written : WritesFile text old new why
+  pub written : WritesFile text sink why

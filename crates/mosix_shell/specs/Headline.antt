@@ -9,8 +9,8 @@ use Rattle.mosix_shell.specs.History.{AreStamped}
 use Rattle.mosix_shell.specs.ScriptLaw.{ScriptLaw, command_count}
 use Rattle.mosix_shell.specs.OnceLaw.{OnceLaw, AreGivenBack}
 use Rattle.mosix_shell.specs.OnePlace.{OnePlace}
-use Rattle.mosix_shell.specs.declared.run.Run.{Run}
-use Rattle.mosix_shell.specs.declared.run.Last.TheVariants as last
+use Rattle.shell_text.specs.declared.run.Run.{Run}
+use Rattle.shell_text.specs.declared.run.Last.TheVariants as last
 
 -- the schedule of the events leads to a state, and the run tells that state's statuses, terminal, files and replies
 pub record Replays (setup : List UserState) (script : List ScriptLine) (run : Run) : Type 0 where

@@ -1,11 +1,11 @@
 -- How far a source is read.
-use Rattle.std.specs.Prelude.{◌≡◌, ◌≤◌, ℕ, ◌<◌, List, ◌++◌, length, take, drop, Bool, true, false, Option, Some, None, Result, Ok, Err, MatchOption}
+use Rattle.std.specs.Prelude.{◌≡◌, ◌≤◌, ℕ, ◌<◌, List, ◌++◌, length, take, drop, Bool, true, false, Option, Some, None, Result, Ok, Err}
 use Rattle.std.specs.Option.{option_map}
 
--- what was read of a source, where it tells: all of it, or that it is longer than the limit
-abbrev pub IsRead : ℕ → Option (List ℕ) → Option (List ℕ) → Type 0
-IsRead limit None r = Unit {0}
-IsRead limit (Some left) r = MatchOption r (limit < length left) (λ bytes. bytes ≡ left)
+-- what was read of a source, where it tells: all of it, or more than the limit
+abbrev pub IsReadPast : ℕ → Option (List ℕ) → List ℕ → Type 0
+IsReadPast limit None bytes = Unit {0}
+IsReadPast limit (Some left) bytes = (length left ≤ limit → bytes ≡ left) × (limit < length left → limit < length bytes)
 
 -- the next bytes were read, to the end or so many of them
 abbrev pub IsReadTo : ℕ → Option (List ℕ) → Option (List ℕ) → List ℕ → Type 0

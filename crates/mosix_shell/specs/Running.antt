@@ -1,15 +1,15 @@
 -- What the answers of the run's parts tell.
-use Rattle.std.specs.Prelude.{◌≡◌, List, reverse, Option, Some, None, Bool, true, false}
+use Rattle.std.specs.Prelude.{◌≡◌, ℕ, List, reverse, Option, Some, None, Bool, true, false}
 use Rattle.node_event.specs.declared.event.Event.{Event}
 use Rattle.fs_memory.specs.Files.{named_files}
 use Rattle.user_spec.specs.User.{UserState}
 use Rattle.one_node.specs.Machine.{MachineState, statuses}
 use Rattle.mosix_shell.specs.declared.phase.Phase.{Phase}
-use Rattle.mosix_shell.specs.Turns.{Moment, Turned, Makes, IsOver, IsUnbuilt, Story, story_of}
+use Rattle.mosix_shell.specs.Turns.{Moment, Turned, Makes, IsOver, IsUnbuilt, Story, story_of, ends}
 use Rattle.mosix_shell.specs.declared.run.Turn.{Turn}
 use Rattle.mosix_shell.specs.declared.run.Turn.TheVariants as turns
-use Rattle.mosix_shell.specs.declared.run.Run.{Run}
-use Rattle.mosix_shell.specs.declared.run.Last.TheVariants as last
+use Rattle.shell_text.specs.declared.run.Run.{Run}
+use Rattle.shell_text.specs.declared.run.Last.TheVariants as last
 
 abbrev pub moment : MachineState → Phase → Moment
 moment m phase = record { machine = m; phase = phase }
@@ -41,6 +41,6 @@ pub record IsRunOfStory (run : Run) (s : Story) : Type 0 where
   pub told : Finishes run s.last.machine run.events
 
 -- a run, none where the process does not end within one
-abbrev pub RunsTo : Option Run → UserState → Type 0
-RunsTo None u = (story_of u).ended ≡ false
-RunsTo (Some run) u = IsRunOfStory run (story_of u)
+abbrev pub RunsTo : Option Run → ℕ → UserState → Type 0
+RunsTo None line u = ends line u ≡ false
+RunsTo (Some run) line u = IsRunOfStory run (story_of line u)

@@ -1,25 +1,38 @@
 -- What is told of the outside, and promises that are made where something is told.
-use Rattle.std.specs.Prelude.{ℕ, List, Option, Some, None}
-use Rattle.outside.specs.Outside.{NamedFile}
+use Rattle.std.specs.Prelude.{◌≡◌, ℕ, List, Option, Some, None}
+use Rattle.outside.specs.Outside.{Rose}
 
 -- a promise that is made only where something is told
 abbrev pub WhereTold : {A : Type 0} → Option A → (A → Type 0) → Type 0
 WhereTold None P = Unit {0}
 WhereTold (Some x) P = P x
 
--- what an object of the outside tells, where it tells, and its count of faults
-pub record Seen (A : Type 0) : Type 0 where
-  pub told : Option A
-  pub faults : ℕ
+-- a text is that of a source, where it is told
+abbrev pub IsTextOf : Option (List ℕ) → List ℕ → Type 0
+IsTextOf left text = WhereTold left (λ bytes. text ≡ bytes)
 
-abbrev pub seen : {A : Type 0} → Option A → ℕ → Seen A
-seen told faults = record { told = told; faults = faults }
+-- an object of the outside before and after a call, with what it tells, where it tells, and its count of faults
+pub record Seen (T A : Type 0) : Type 0 where
+  pub tells : T → Option A
+  pub faults : T → ℕ
+  pub old : T
+  pub new : T
 
--- what is left of the script or the text, the files, and what was written
-pub record Outside : Type 0 where
-  pub script : Seen (List ℕ)
-  pub images : Seen (List NamedFile)
-  pub sink : Seen (List ℕ)
+abbrev pub seen : {T A : Type 0} → (T → Option A) → (T → ℕ) → T → T → Seen T A
+seen tells faults old new = record { tells = tells; faults = faults; old = old; new = new }
 
-abbrev pub outside : Seen (List ℕ) → Seen (List NamedFile) → Seen (List ℕ) → Outside
-outside script images sink = record { script = script; images = images; sink = sink }
+-- what it told before the call
+abbrev pub told : {T A : Type 0} → Seen T A → Option A
+told s = s.tells s.old
+
+-- and what it tells after it
+abbrev pub tells_now : {T A : Type 0} → Seen T A → Option A
+tells_now s = s.tells s.new
+
+-- its count of faults rose in the call
+abbrev pub HasRisen : {T A : Type 0} → Seen T A → Type 0
+HasRisen s = Rose (s.faults s.old) (s.faults s.new)
+
+-- nothing was done to it
+abbrev pub IsUntouched : {T A : Type 0} → Seen T A → Type 0
+IsUntouched s = s.new ≡ s.old

@@ -111,10 +111,10 @@ unfoldable pub story : ℕ → ℕ → List Event → Moment → Story
 story quantum zero es now = record { history = es; last = now; ended = is_over (turn_of quantum now) }
 story quantum (suc n) es now = told_by (turn_of quantum now) es now (story quantum n)
 
--- ---- from the start: line 1 launches process 1
+-- ---- from the start: a line of this number launches process 1
 
-abbrev pub first_event : Event
-first_event = record { stamp = 1; node = 0; what = Command 1 (Some 1) None None }
+abbrev pub first_event : ℕ → Event
+first_event line = record { stamp = 1; node = 0; what = Command line (Some 1) None None }
 
 abbrev pub first_moment : UserState → Moment
 first_moment u = record {
@@ -130,9 +130,9 @@ quantum_steps = 16384
 unfoldable pub later_events : ℕ
 later_events = 262143
 
-abbrev pub story_of : UserState → Story
-story_of u = story quantum_steps later_events (first_event ∷ []) (first_moment u)
+abbrev pub story_of : ℕ → UserState → Story
+story_of line u = story quantum_steps later_events (first_event line ∷ []) (first_moment u)
 
 -- the fate of a process: whether it ends within a run
-abbrev pub ends : UserState → Bool
-ends u = (story_of u).ended
+abbrev pub ends : ℕ → UserState → Bool
+ends line u = (story_of line u).ended

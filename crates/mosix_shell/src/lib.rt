@@ -2,11 +2,12 @@
 #![tactic(auto)]
 
 pub mod assembling;
+pub mod images;
 pub mod mosix;
+pub mod orders;
 pub mod phase;
 pub mod reading;
-pub mod report;
 pub mod run;
-pub mod script;
+pub mod stage;
+pub mod status;
 pub mod why;
-pub mod words;

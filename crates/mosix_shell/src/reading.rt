@@ -1,7 +1,7 @@
 // Reading a source up to a limit.
 ghost use Rattle.std.specs.Prelude.{◌≡◌, ◌≤◌, ◌+◌, IfOk, IfErr, OnErr, length, true};
 ghost use Rattle.outside.specs.Outside.{Rose};
-ghost use Rattle.mosix_shell.specs.Reading.{IsRead, IsReadTo, Reads, is_failed};
+ghost use Rattle.mosix_shell.specs.Reading.{IsReadPast, IsReadTo, Reads, is_failed};
 
 use call_table::Bytes;
 use outside::Source;
@@ -40,25 +40,16 @@ pub fn read_to<S: Source>(alloc: Global, source: &mut S, most: usize) -> Result<
     Ok(bytes)
 }
 
-/// The whole input, or None where it has more bytes than the limit. At most the byte after the limit is taken.
-#[tactic(auto, using(crate::proofs::Readings::all_read))]
-pub fn read_all<S: Source>(
-    alloc: Global,
-    source: &mut S,
-    limit: u32,
-) -> Result<Option<Bytes>, ReadError>
-    ensures ok { IfOk result (IsRead limit (S.left source.old)) }
+/// The text of a source, or so much of it that it is longer than the limit too.
+#[tactic(auto, using(crate::proofs::Readings::read_past, crate::proofs::Readings::all_read))]
+pub fn read_text<S: Source>(alloc: Global, source: &mut S, limit: u32) -> Result<Bytes, ReadError>
+    ensures ok { IfOk result (IsReadPast limit (S.left source.old)) }
     ensures reads { Reads (limit + 1) (S.left source.old) (S.left source.new) (is_failed result) }
     ensures later { S.faults source.old ≤ S.faults source.new }
     ensures failed { IfErr result (λ e. e ≡ ReadError.Failed → Rose (S.faults source.old) (S.faults source.new)) }
 {
-    let limit = limit as usize;
-    let bytes = match read_to(alloc, source, limit + 1) {
-        Ok(bytes) => bytes,
-        Err(e) => return Err(e),
-    };
-    if bytes.len() > limit {
-        return Ok(None);
+    match read_to(alloc, source, limit as usize + 1) {
+        Ok(text) => Ok(text),
+        Err(e) => Err(e),
     }
-    Ok(Some(bytes))
 }

@@ -8,11 +8,12 @@ ghost use Rattle.mosix_shell.specs.Running.{MakesTurn, EndsAs, Finishes, RunsTo,
 
 use crate::phase::Phase;
 use call_table::call::{CLOSE, DUP, EXIT, LSEEK, OPEN, READ, UNLINK, WRITE, YIELD};
-use call_table::{Bytes, End, NamedFiles, NoMemory, Replies, Statuses};
+use call_table::{End, NoMemory};
 use node_event::{Event, Events, Way, What};
 use one_node::going::Ran;
 use one_node::home::{Applied, Home};
 use one_node::{Feeds, Setup, Step};
+use shell_text::{Last, Run};
 use std::alloc::Global;
 use user_ctx::{User, Users};
 
@@ -24,26 +25,6 @@ const EVENTS: u32 = 262_143;
 
 /// The one process.
 const FIRST: u32 = 1;
-
-/// How the run itself ended.
-#[derive(Clone, Copy, Debug, PartialEq, Eq)]
-pub enum Last {
-    Done,
-    Stuck,
-    /// A node whose journal is full.
-    Full(u8),
-}
-
-/// What a run tells.
-#[derive(Drop)]
-pub struct Run {
-    pub events: Events,
-    pub statuses: Statuses,
-    pub terminal: Bytes,
-    pub files: NamedFiles,
-    pub replies: Replies,
-    pub last: Last,
-}
 
 /// What a turn came to.
 #[derive(Clone, Copy, Debug, PartialEq, Eq)]
@@ -219,16 +200,16 @@ fn finish(alloc: Global, home: &Home, events: Events) -> Result<Run, NoMemory>
     })
 }
 
-/// The events of a run at its start: line 1 launches process 1.
-fn first_events(alloc: Global) -> Result<Events, NoMemory>
-    ensures first { IfOk result (λ events. reverse events ≡ first_event ∷ []) }
+/// The events of a run at its start: a line of this number launches process 1.
+fn first_events(alloc: Global, line: u32) -> Result<Events, NoMemory>
+    ensures first { IfOk result (λ events. reverse events ≡ first_event line ∷ []) }
     ensures len { IfOk result (λ events. length events ≡ 1) }
 {
     let mut events = Events::new(alloc);
     record_event(
         &mut events,
         What::Command {
-            line: 1,
+            line,
             launched: Some(FIRST),
             unsent: None,
             poked: None,
@@ -257,11 +238,11 @@ fn turns(alloc: Global, home: &mut Home, events: &mut Events) -> Result<bool, No
     }
 }
 
-/// Runs a process to its end. None exactly where it does not end within a run.
-pub fn run_process(alloc: Global, user: User) -> Result<Option<Run>, NoMemory>
-    ensures { IfOk result (λ run. RunsTo run user) }
+/// Runs the process that a line of this number launches to its end. None exactly where it does not end within a run.
+pub fn run_process(alloc: Global, line: u32, user: User) -> Result<Option<Run>, NoMemory>
+    ensures { IfOk result (λ run. RunsTo run line user) }
 {
-    let mut events = first_events(alloc)?;
+    let mut events = first_events(alloc, line)?;
     let Some(mut home) = launch(alloc, user)? else {
         return Ok(None);
     };

@@ -1,27 +1,35 @@
-// Why the top call ended: the answer's number and its line.
-ghost use Rattle.std.specs.Prelude.{◌≡◌, IfOk};
-ghost use Rattle.mosix_shell.specs.Why.{status_of, text_of};
+// Why the top call ended: the answer's status and its line.
+ghost use Rattle.std.specs.Prelude.{◌≡◌, IfOk, map, codes};
+ghost use Rattle.mosix_shell.specs.Why.{status_of, line_of, numbered, why_of_last};
 
+use crate::status;
 use call_table::{Bytes, NoMemory};
+use shell_text::Last;
 use std::alloc::Global;
 
 /// Why the call ended.
 #[derive(Clone, Copy, Debug, PartialEq, Eq)]
 pub enum Why {
-    /// The process ended, and its report was written.
+    /// All was done, and the report or the file was written.
     Done,
-    /// The words are none that are built.
+    /// Nothing could go on, and the report was written.
+    Stuck,
+    /// The words ask for nothing.
     BadWords,
-    /// The image of a line was refused.
+    /// The first faulty line of the script and the kind of its fault, as `shell_text::FaultKind` numbers them.
+    BadScript { line: u32, kind: u8 },
+    /// The first line whose image was refused: kind 1 to 11 by its file, 12 where it is absent, 13 where it is too long.
     BadImage { line: u32, kind: u8 },
-    /// The script or an image could not be read.
+    /// The script, the text or an image could not be read.
     ReadFault,
-    /// The report could not be written.
+    /// The report or the file could not be written.
     WriteFault,
     NoMemory,
+    /// The journal of this node was full, and the report was written.
+    JournalFull { node: u8 },
     /// A form that is not built yet.
     NotBuilt,
-    /// The assembler refused the text.
+    /// The first faulty line of the assembler's text and the kind of its fault.
     BadSource { line: u32, kind: u8 },
 }
 
@@ -30,45 +38,61 @@ pub fn status_of(why: Why) -> u8
     ensures { result ≡ status_of why }
 {
     match why {
-        Why::Done => 0,
-        Why::BadWords => 2,
-        Why::BadImage { .. } => 4,
-        Why::ReadFault => 5,
-        Why::WriteFault => 6,
-        Why::NoMemory => 7,
-        Why::NotBuilt => 10,
-        Why::BadSource { .. } => 11,
+        Why::Done => status::DONE,
+        Why::Stuck => status::STUCK,
+        Why::BadWords => status::BAD_WORDS,
+        Why::BadScript { .. } => status::BAD_SCRIPT,
+        Why::BadImage { .. } => status::BAD_IMAGE,
+        Why::ReadFault => status::READ_FAULT,
+        Why::WriteFault => status::WRITE_FAULT,
+        Why::NoMemory => status::NO_MEMORY,
+        Why::JournalFull { .. } => status::JOURNAL_FULL,
+        Why::NotBuilt => status::NOT_BUILT,
+        Why::BadSource { .. } => status::BAD_SOURCE,
     }
 }
 
-/// The line of a refused image.
-fn image_line(alloc: Global, line: u32, kind: u8) -> Result<Bytes, NoMemory>
-    ensures { IfOk result (λ text. text ≡ text_of (Why.BadImage line kind)) }
+/// The answer of a run that ended so.
+pub fn why_of_last(last: Last) -> Why
+    ensures { result ≡ why_of_last last }
 {
-    let text = format!(in alloc; "bad image {line} {kind}\n")?;
-    Ok(Bytes::from_vec(text.into_bytes()))
-}
-
-/// The line of a text that the assembler refused.
-fn source_line(alloc: Global, line: u32, kind: u8) -> Result<Bytes, NoMemory>
-    ensures { IfOk result (λ text. text ≡ text_of (Why.BadSource line kind)) }
-{
-    let text = format!(in alloc; "bad source {line} {kind}\n")?;
-    Ok(Bytes::from_vec(text.into_bytes()))
-}
-
-/// The line of an answer without a report.
-pub fn line_of(alloc: Global, why: Why) -> Result<Bytes, NoMemory>
-    ensures { IfOk result (λ line. line ≡ text_of why) }
-{
-    match why {
-        Why::Done => Ok(Bytes::new(alloc)),
-        Why::BadWords => Bytes::from_slice(alloc, b"bad words\n"),
-        Why::BadImage { line, kind } => image_line(alloc, line, kind),
-        Why::ReadFault => Bytes::from_slice(alloc, b"read fault\n"),
-        Why::WriteFault => Ok(Bytes::new(alloc)),
-        Why::NoMemory => Ok(Bytes::new(alloc)),
-        Why::NotBuilt => Bytes::from_slice(alloc, b"not built\n"),
-        Why::BadSource { line, kind } => source_line(alloc, line, kind),
+    match last {
+        Last::Done => Why::Done,
+        Last::Stuck => Why::Stuck,
+        Last::Full(node) => Why::JournalFull { node },
     }
+}
+
+fn plain(alloc: Global, text: &str) -> Result<Bytes, NoMemory>
+    ensures { IfOk result (λ line. line ≡ text.now) }
+{
+    Bytes::from_slice(alloc, text.as_bytes())
+}
+
+/// A text and two numbers, with a blank before each.
+fn numbered(alloc: Global, text: &str, line: u32, kind: u8) -> Result<Bytes, NoMemory>
+    ensures { IfOk result (λ bytes. bytes ≡ numbered text.now line kind) }
+{
+    let line = format!(in alloc; "{text} {line} {kind}\n")?;
+    Ok(Bytes::from_vec(line.into_bytes()))
+}
+
+/// The line of an answer without a report or a file. None exactly where nothing is written in their place.
+pub fn line_of(alloc: Global, why: Why) -> Result<Option<Bytes>, NoMemory>
+    ensures { IfOk result (λ line. line ≡ line_of why) }
+{
+    let line = match why {
+        Why::BadWords => plain(alloc, status::BAD_WORDS_LINE)?,
+        Why::BadScript { line, kind } => numbered(alloc, status::BAD_SCRIPT_TEXT, line, kind)?,
+        Why::BadImage { line, kind } => numbered(alloc, status::BAD_IMAGE_TEXT, line, kind)?,
+        Why::ReadFault => plain(alloc, status::READ_FAULT_LINE)?,
+        Why::NotBuilt => plain(alloc, status::NOT_BUILT_LINE)?,
+        Why::BadSource { line, kind } => numbered(alloc, status::BAD_SOURCE_TEXT, line, kind)?,
+        Why::Done => return Ok(None),
+        Why::Stuck => return Ok(None),
+        Why::WriteFault => return Ok(None),
+        Why::NoMemory => return Ok(None),
+        Why::JournalFull { .. } => return Ok(None),
+    };
+    Ok(Some(line))
 }

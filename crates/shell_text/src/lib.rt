@@ -17,7 +17,7 @@ pub use fault::{FaultKind, ScriptError};
 pub use report::print_report;
 pub use run::{Last, Run};
 pub use script::read_script;
-pub use writing::PrintFault;
+pub use writing::{PrintFault, write_bytes};
 
 #[cfg(test)]
 mod tests;

@@ -1,5 +1,5 @@
 // Pieces of a text, each written by a call of its own.
-ghost use Rattle.std.specs.Prelude.{◌≡◌, ℕ, List, Option, [], ◌∷◌, IfOk};
+ghost use Rattle.std.specs.Prelude.{◌≡◌, ℕ, List, Option, [], ◌∷◌, IfOk, IfErr};
 ghost use Rattle.shell_text.specs.Printing.{Prints};
 ghost use Rattle.shell_text.specs.Report.{listed, chunks_of};
 
@@ -17,7 +17,8 @@ pub enum PrintFault {
 
 /// Writes one piece by one call.
 pub fn write_piece<O: Sink>(out: &mut O, piece: &[u8]) -> Result<(), PrintFault>
-    ensures { Prints O.written O.faults (piece.now ∷ []) out.old out.new result }
+    ensures prints { Prints O.written O.faults (piece.now ∷ []) out.old out.new result }
+    ensures failed { IfErr result (λ e. e ≡ PrintFault.Failed) }
 {
     match out.write_all(piece) {
         Ok(()) => Ok(()),
@@ -57,9 +58,10 @@ pub fn write_some<O: Sink>(
     }
 }
 
-/// Writes bytes in pieces of at most 65,536, the last of which may be shorter.
+/// Writes bytes in pieces of at most 65,536, the last of which may be shorter. It wants no memory.
 pub fn write_bytes<O: Sink>(out: &mut O, bytes: &[u8]) -> Result<(), PrintFault>
-    ensures { Prints O.written O.faults (chunks_of bytes.now) out.old out.new result }
+    ensures prints { Prints O.written O.faults (chunks_of bytes.now) out.old out.new result }
+    ensures failed { IfErr result (λ e. e ≡ PrintFault.Failed) }
 {
     let mut rest = bytes;
     while !rest.is_empty() {

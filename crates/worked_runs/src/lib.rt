@@ -10,6 +10,10 @@ mod in_memory;
 #[cfg(test)]
 mod play;
 #[cfg(test)]
+mod reports;
+#[cfg(test)]
 mod runs;
+#[cfg(test)]
+mod scripts;
 #[cfg(test)]
 mod texts;

@@ -1,12 +1,9 @@
-// The plain system on one node by its own calls, and the calls that take memory, with memory enough.
+// The plain system on one node by its own calls, with memory enough.
 use crate::images::{HELLO, program};
-use crate::in_memory::named;
+use crate::in_memory::words_of;
 use crate::runs::REPLIES;
-use call_table::{End, NamedFiles, PidState};
+use call_table::{End, PidState};
 use elf_load::load;
-use mosix_shell::report::report;
-use mosix_shell::script::{script_of, words_of};
-use node_event::Order;
 use one_node::going::Ran;
 use one_node::home::{Applied, Home, Outcome};
 use one_node::play::{PlayFault, play};
@@ -23,7 +20,7 @@ fn hello(alloc: Global) -> Result<Setup, Fail> {
 
 /// The process of a file alone.
 fn setup_of(alloc: Global, file: &[u8]) -> Result<Setup, Fail> {
-    let words = words_of(alloc, "hello")?;
+    let words = words_of(alloc, &["hello"])?;
     let mut users = Users::new(alloc);
     users.push(load(alloc, file, &words)?)?;
     Ok(Setup {
@@ -144,68 +141,4 @@ fn a_home_by_its_calls(rt: HostRuntime) -> Result<(), Fail> {
     let setup = hello(rt.alloc())?;
     let mut home = Home::new(rt.alloc());
     goes_to_its_end(&rt, rt.alloc(), &mut home, &setup)
-}
-
-/// One process of each state.
-const STATES: [(u32, PidState); 4] = [
-    (1, PidState::Exit(3)),
-    (2, PidState::Signal(9)),
-    (3, PidState::Blocked(8)),
-    (4, PidState::Live),
-];
-
-/// The pieces of their report.
-const PIECES: [&str; 11] = [
-    "terminal 2\n",
-    "ab",
-    "\n",
-    "process 1 exit 3\n",
-    "process 2 signal 9\n",
-    "process 3 blocked 8\n",
-    "process 4 live\n",
-    "file f 3\n",
-    "xyz",
-    "\n",
-    "done\n",
-];
-
-#[test]
-fn a_script_and_a_report(rt: HostRuntime) -> Result<(), Fail> {
-    let alloc = rt.alloc();
-    let script = script_of(alloc, "hello")?;
-    let line = script.get(0).ok_or("a line")?;
-    match &line.order {
-        Order::Run { words } => {
-            let word = words.get(0).ok_or("a word")?;
-            assert_eq!(rt; (line.line, words.len(), word.as_str()), (1, 1, "hello"));
-        }
-        _ => assert!(rt; false),
-    }
-    let mut files = NamedFiles::new(alloc);
-    files.push(named(alloc, b"f", b"xyz")?)?;
-    let pieces = report(alloc, b"ab", &STATES, files.as_slice())?;
-    assert_eq!(rt; pieces.len(), PIECES.len());
-    for (piece, want) in pieces.as_slice().iter().zip(PIECES.iter()) {
-        assert!(rt; piece.as_slice() == want.as_bytes());
-    }
-    Ok(())
-}
-
-/// The lengths of the pieces of a report.
-fn lengths(rt: &impl Abort, alloc: Global, terminal: &[u8], wanted: &[usize]) -> Result<(), Fail> {
-    let pieces = report(alloc, terminal, &[], &[])?;
-    assert_eq!(rt; pieces.len(), wanted.len());
-    for (piece, want) in pieces.as_slice().iter().zip(wanted.iter()) {
-        assert_eq!(rt; piece.len(), *want);
-    }
-    Ok(())
-}
-
-/// A piece has 65,536 bytes at most, and nothing is a piece of no bytes.
-#[test]
-fn pieces_of_a_report(rt: HostRuntime) -> Result<(), Fail> {
-    let alloc = rt.alloc();
-    lengths(&rt, alloc, b"", &[11, 1, 5])?;
-    let long = vec![in alloc; b'z'; 65_537]?;
-    lengths(&rt, alloc, long.as_slice(), &[15, 65_536, 1, 1, 5])
 }

@@ -2,9 +2,9 @@
 use crate::images::images;
 use crate::in_memory::{Failing, NEVER, RUN, Told, answer, run_in_memory, run_to_end, tells};
 use call_table::{Bytes, End, Named, Names, NoMemory, PidState, Reply3};
-use mosix_shell::run::{Last, Run};
 use node_event::{Event, Way, What};
 use outside::{Calls, MemImages, MemSink, MemSource, Source};
+use shell_text::{Last, Run};
 use std::alloc::Global;
 use std::process::Abort;
 use std::test::Fail;
@@ -15,7 +15,7 @@ fn run(alloc: Global, words: &[&str], script: &[u8], failing: Failing) -> Result
 }
 
 /// The status of a script's run, and its report or line.
-const SCRIPTS: [(&[u8], u8, &[u8]); 16] = [
+const SCRIPTS: [(&[u8], u8, &[u8]); 19] = [
     (
         b"run hello",
         0,
@@ -33,13 +33,32 @@ const SCRIPTS: [(&[u8], u8, &[u8]); 16] = [
     ),
     (b"run hello\nrun hello\n", 10, b"not built\n"),
     (b"", 10, b"not built\n"),
-    (b"run  hello", 10, b"not built\n"),
-    (b"run hello \n", 10, b"not built\n"),
-    (b"run hello\n\n", 10, b"not built\n"),
-    (b"walk hello\n", 10, b"not built\n"),
+    (
+        b"run  hello",
+        0,
+        b"terminal 3\nhi\n\nprocess 1 exit 0\ndone\n",
+    ),
+    (
+        b"\trun hello \r\n",
+        0,
+        b"terminal 3\nhi\n\nprocess 1 exit 0\ndone\n",
+    ),
+    (
+        b"run hello\n\n# and no more\n",
+        0,
+        b"terminal 3\nhi\n\nprocess 1 exit 0\ndone\n",
+    ),
+    (
+        b"# hello\n \nrun hello a word and another",
+        0,
+        b"terminal 3\nhi\n\nprocess 1 exit 0\ndone\n",
+    ),
+    (b"run hello\neof\n", 10, b"not built\n"),
+    (b"type run hello\n", 10, b"not built\n"),
+    (b"walk hello\n", 3, b"bad script 1 3\n"),
     (b"run cut", 4, b"bad image 1 1\n"),
     (b"run short", 4, b"bad image 1 8\n"),
-    (b"run none", 4, b"bad image 1 12\n"),
+    (b"# none\nrun none", 4, b"bad image 2 12\n"),
     (b"run bad", 0, b"terminal 0\n\nprocess 1 signal 4\ndone\n"),
     (b"run edge", 0, b"terminal 0\n\nprocess 1 signal 11\ndone\n"),
     (b"run jump1", 0, b"terminal 0\n\nprocess 1 exit 5\ndone\n"),
@@ -88,7 +107,8 @@ fn long_name_tells(
 #[test]
 fn names(rt: HostRuntime) -> Result<(), Fail> {
     long_name_tells(&rt, rt.alloc(), 1000, 4, b"bad image 1 12\n")?;
-    long_name_tells(&rt, rt.alloc(), 1001, 10, b"not built\n")?;
+    long_name_tells(&rt, rt.alloc(), 1020, 4, b"bad image 1 12\n")?;
+    long_name_tells(&rt, rt.alloc(), 1021, 3, b"bad script 1 1\n")?;
     Ok(())
 }
 
@@ -117,27 +137,71 @@ fn the_longest_image(rt: HostRuntime) -> Result<(), Fail> {
     Ok(())
 }
 
-/// Words of no mode.
-const WORDS: [&[&str]; 6] = [
-    &[],
-    &["--nodes", "9", "run"],
-    &["--nodes", "1"],
-    &["asm", "asm"],
-    &["--nodes", "1", "asm"],
-    &["assemble"],
+/// The report of hello.
+const HELLO_REPORT: &[u8] = b"terminal 3\nhi\n\nprocess 1 exit 0\ndone\n";
+
+/// Its report with the lines of its events.
+const HELLO_EVENTS: &[u8] = b"terminal 3\nhi\n\nprocess 1 exit 0\ndone\nevents 9
+1 0 command 1 1 - -\n2 0 steps 1 5\n3 0 sent 1 9\n4 0 served 1 did 9 3 - - 0 - -\n5 0 got 1 - 0 - -
+6 0 steps 1 2\n7 0 sent 1 1\n8 0 served 1 did 1 0 - x0 0 - -\n9 0 got 1 - 1 - -\n";
+
+/// Words, and the status and the bytes that a run of hello tells by them.
+const WORDS: [(&[&str], u8, &[u8]); 26] = [
+    (&[], 2, b"bad words\n"),
+    (&["--nodes", "9", "run"], 2, b"bad words\n"),
+    (&["--nodes", "0", "run"], 2, b"bad words\n"),
+    (&["--nodes", "1"], 2, b"bad words\n"),
+    (&["asm", "asm"], 2, b"bad words\n"),
+    (&["assemble"], 2, b"bad words\n"),
+    (&["--nodes", "1", "--nodes", "1", "run"], 2, b"bad words\n"),
+    (&["--nodes", "1", "--serial=x", "run"], 2, b"bad words\n"),
+    (&["--nodes", "--", "run"], 2, b"bad words\n"),
+    (&["--help"], 2, b"bad words\n"),
+    (&["--version"], 2, b"bad words\n"),
+    (&["--nodes=1", "run"], 0, HELLO_REPORT),
+    (&["--nodes", "01", "--", "run"], 0, HELLO_REPORT),
+    (&["run", "--nodes", "1", "--"], 0, HELLO_REPORT),
+    (&["--nodes", "1", "--serial", "run"], 0, HELLO_REPORT),
+    (&["--nodes", "1", "--pages", "16", "run"], 0, HELLO_REPORT),
+    (&["--nodes", "1", "--seed", "7", "run"], 0, HELLO_REPORT),
+    (
+        &["--nodes", "1", "--quantum", "16384", "run"],
+        0,
+        HELLO_REPORT,
+    ),
+    (&["--nodes", "1", "--events", "run"], 0, HELLO_EVENTS),
+    (&["run"], 10, b"not built\n"),
+    (&["run", "--"], 10, b"not built\n"),
+    (&["--nodes", "2", "run"], 10, b"not built\n"),
+    (
+        &["--nodes", "1", "--quantum", "64", "run"],
+        10,
+        b"not built\n",
+    ),
+    (
+        &["--nodes", "1", "--journal", "16", "run"],
+        10,
+        b"not built\n",
+    ),
+    (&["gen"], 10, b"not built\n"),
+    (&["--nodes", "1", "asm"], 11, b"bad source 1 2\n"),
 ];
 
-fn are_bad_words(rt: &impl Abort, alloc: Global, rows: &[&[&str]]) -> Result<(), NoMemory> {
-    for words in rows {
-        let told = run(alloc, *words, b"run hello\n", NEVER)?;
-        tells(rt, &told, 2, b"bad words\n");
+fn words_tell(
+    rt: &impl Abort,
+    alloc: Global,
+    rows: &[(&[&str], u8, &[u8])],
+) -> Result<(), NoMemory> {
+    for row in rows {
+        let told = run(alloc, row.0, b"run hello\n", NEVER)?;
+        tells(rt, &told, row.1, row.2);
     }
     Ok(())
 }
 
 #[test]
 fn words(rt: HostRuntime) -> Result<(), Fail> {
-    are_bad_words(&rt, rt.alloc(), &WORDS)?;
+    words_tell(&rt, rt.alloc(), &WORDS)?;
     Ok(())
 }
 
@@ -162,7 +226,8 @@ fn left_behind(alloc: Global, words: &[&str], length: usize) -> Result<usize, No
 fn what_is_read(rt: HostRuntime) -> Result<(), Fail> {
     assert_eq!(rt; left_behind(rt.alloc(), &RUN, 65_540)?, 3);
     assert_eq!(rt; left_behind(rt.alloc(), &["asm"], 1_048_580)?, 3);
-    assert_eq!(rt; left_behind(rt.alloc(), &["run"], 5)?, 5);
+    assert_eq!(rt; left_behind(rt.alloc(), &["walk"], 5)?, 5);
+    assert_eq!(rt; left_behind(rt.alloc(), &["gen"], 5)?, 5);
     Ok(())
 }
 
@@ -170,7 +235,7 @@ fn what_is_read(rt: HostRuntime) -> Result<(), Fail> {
 type Fault<'a> = (&'a [&'a str], &'a [u8], Failing, u8, &'a [u8]);
 
 /// A report or a file that is not written whole, an input that is not read, and a line that is not written, which leaves the answer.
-const FAULTS: [Fault<'static>; 7] = [
+const FAULTS: [Fault<'static>; 9] = [
     (
         &["--nodes", "1", "run"],
         b"run hello",
@@ -185,7 +250,9 @@ const FAULTS: [Fault<'static>; 7] = [
         5,
         b"read fault\n",
     ),
-    (&["--nodes", "1", "run"], b"walk hello", (0, 1), 10, b""),
+    (&["--nodes", "1", "run"], b"walk hello", (0, 1), 3, b""),
+    (&["--nodes", "1", "run"], b"run none", (0, 1), 4, b""),
+    (&["--nodes", "2", "run"], b"run hello", (0, 1), 10, b""),
     (&["walk"], b"run hello", (0, 1), 2, b""),
     (&["asm"], b"nop", (1, 0), 5, b"read fault\n"),
     (&["asm"], b"nop", (0, 1), 6, b""),
