@@ -133,7 +133,7 @@ impl Home {
         Ok(true)
     }
 
-    /// Raises a signal of the table at a process.
+    /// Raises a signal at a process. Not exactly where it is no signal of the table.
     fn raise(&mut self, pid: u32, signal: u8) -> Applied
         ensures { AppliedAs result (raised self.old pid signal) (raised_by (Step.Raise pid signal) self.old) self.old self.new }
     {
@@ -200,7 +200,7 @@ impl Home {
         Ok(asked)
     }
 
-    /// Serves the forwarded call of a process, which does not block.
+    /// Serves the forwarded call of a process. Not exactly where it is at none, or the call blocks.
     pub fn serve(&mut self, alloc: Global, pid: u32) -> Result<Applied, NoMemory>
         ensures { IfOk result (λ a. AppliedAs a (done_of self.old pid (live_user self.old pid)) (raised_by_call self.old pid) self.old self.new) }
     {
@@ -223,7 +223,7 @@ impl Home {
         }
     }
 
-    /// Breaks off the forwarded call of a process, which blocks, where it can take a signal.
+    /// Breaks off the forwarded call of a process with -4. Not exactly where it is at none, the call does not block, or it can take no signal.
     fn break_call(&mut self, alloc: Global, pid: u32) -> Result<Applied, NoMemory>
         ensures { IfOk result (λ a. AppliedAs a (broken_of self.old pid (live_user self.old pid)) None self.old self.new) }
     {
@@ -243,7 +243,7 @@ impl Home {
         Ok(did_reply(None, &answer))
     }
 
-    /// A process takes its lowest signal, where it can take one.
+    /// A process takes its lowest signal. Not exactly where it can take none.
     fn take(&mut self, pid: u32) -> Applied
         ensures { AppliedAs result (taken_of self.old pid (live_user self.old pid)) (raised_by_take self.old pid) self.old self.new }
     {
@@ -262,7 +262,7 @@ impl Home {
         }
     }
 
-    /// Ends a process by the fault that it is at.
+    /// Ends a process by the fault that it is at. Not exactly where it is at none.
     pub fn fall(&mut self, pid: u32) -> Applied
         ensures { AppliedAs result (fallen self.old pid (live_user self.old pid)) (raised_by_end self.old.kernel pid) self.old self.new }
     {
@@ -278,7 +278,7 @@ impl Home {
         }
     }
 
-    /// One step, where its condition holds. Nothing is said of the system after `Not`, or after want of memory.
+    /// One step. Not exactly where its condition fails. Nothing is said of the system after `Not`, or after want of memory.
     pub fn apply(&mut self, alloc: Global, setup: &Setup, step: &Step) -> Result<Applied, NoMemory>
         ensures { IfOk result (λ a. AppliedAs a (machine_step setup.now step.now self.old) (raised_by step.now self.old) self.old self.new) }
     {
