@@ -3,6 +3,7 @@
 
 use call_table::{NoMemory, Text, Words};
 use mosix_shell::mosix::mosix;
+use mosix_shell::status;
 use outside::{FileImages, StdSink, StdSource};
 use std::alloc::Global;
 use std::io::ErrorKind;
@@ -28,7 +29,7 @@ fn words<R: Env + AllocGlobal>(rt: &R) -> Result<Words, NoMemory> {
 fn main(rt: HostRuntime) -> ExitCode {
     let alloc = rt.alloc();
     let Ok(words) = words(&rt) else {
-        return ExitCode::from(7);
+        return ExitCode::from(status::NO_MEMORY);
     };
     let mut source = StdSource::new(rt.reader());
     let mut images = FileImages::new(rt.clone().unwrap());
