@@ -1,0 +1,4 @@
+// The runs of a cluster: nodes at their seats, linked by carriers.
+#![tactic(auto)]
+
+mod side;
