@@ -157,8 +157,6 @@ pub record Sound (O : Ops) : Type 0 where
   pub pid_given : (u : O.User) (a : O.Answer) → O.pid_of (O.given u a) ≡ O.pid_of u
   pub pid_entered : (u : O.User) (t : O.Taken) → O.pid_of (O.entered u t) ≡ O.pid_of u
   pub pid_forked : (u : O.User) (c : ℕ) → O.pid_of (O.forked u c) ≡ c
-  -- a policy has an answer on all that it sees
-  pub answers : (s : Sight) → (c : Option Choice) × O.Chooses s c
   -- a choice moves a context that runs here, to another node that is known
   pub chosen : (s : Sight) (c : Choice) → O.Chooses s (Some c) → IsMovable c.pid s.movable × IsKnown c.to s.known × (c.to ≢ s.node)
   -- what is asked, answered and entered fits

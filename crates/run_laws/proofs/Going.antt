@@ -308,8 +308,8 @@ module _ (O : Ops) (S : Sound O) where
         let new : Local O = record { clock = old.clock + 1; kernel = old.kernel; slots = λ q. cond (q == c.pid) (hosts O (Some (context O y.0 (Asking c.to None))) (old.slots q)) (old.slots q); believed = old.believed; progress = old.progress; gossip = gossip } in
         (t, new, record { node = refl; below = below; stamp_is = omega arith; clock = refl; does = record { body = y.0; was = y.1; away = x.2; why = talks (Some c) t new refl refl chooses; base = record { took = refl; posts = refl; slots = λ q. refl }; still = record { kernel = refl; believed = λ q. refl; progress = refl } } }, refl, refl)
 
-    half_made : Half_made
-    half_made = let a = S.answers (seen O n own gossip.vector movable) in send_made a.0 a.1
+    half_made : Able O → Half_made
+    half_made A = let a = A.answers (seen O n own gossip.vector movable) in send_made a.0 a.1
 
   -- after sixteen quanta of steps one is due
   late_due : (n load free : ℕ) (P : Type 0) (g : Gossip) → 16 ≤ g.steps → (other : ℕ) × HalfDueTo O n other load free P g
@@ -328,13 +328,13 @@ module _ (O : Ops) (S : Sound O) where
       late : 2 ≤ O.nodes → 16 ≤ (w.nodes n).gossip.steps → Made A n (w.nodes n) below
       late many steps =
           let d = late_due n _ _ (NoneRuns O (w.nodes n)) (w.nodes n).gossip steps in
-          half_made n (w.nodes n) below d.0 _ _ (loaded O S sp w st n) (in_use O S sp w st n) _ (can_move O S sp w st n) many d.1
+          half_made n (w.nodes n) below d.0 _ _ (loaded O S sp w st n) (in_use O S sp w st n) _ (can_move O S sp w st n) many d.1 A
 
       made : (k : Kind) → Applies O k n (w.nodes n) → Made A n (w.nodes n) below
       made (Retry p) (home, d) = retry_made A n (w.nodes n) below home p d.call.from d.call.request d.held (no_fault p d.call home d.held) d.ready
       made (RunOn p) (b, was) = run_made A n (w.nodes n) below p b was late
       made NextLine (home, d) = line_made A n (w.nodes n) below home d.line.line (rises A (w.nodes n).progress d.line (subst (λ (k : ℕ). LineAt (w.nodes k).progress) (sym home) (path_line h sp w path)) d.next) d.line.order (d.next, d.enabled)
-      made (SendHalf other) d = half_made n (w.nodes n) below other d.load d.used d.loaded d.in_use _ (can_move O S sp w st n) d.many d.due
+      made (SendHalf other) d = half_made n (w.nodes n) below other d.load d.used d.loaded d.in_use _ (can_move O S sp w st n) d.many d.due A
 
       go : Made A n (w.nodes n) below → (t : Turn O) × (v : World O) × Goes O w t v × (t.taken ≡ None) × (t.event.node ≡ n)
       go (t, new, makes, off, is) = let v = whole w n t new makes off is in (t, v.0, v.1, off, is)

@@ -41,6 +41,7 @@ mover_able = record {
   quantum = omega arith;
   goes = λ u e. went_goes u u.todo e;
   more = λ u v k e. went_more u u.todo v k e;
+  answers = λ s. (None, refl);
 }
   where
     rising : (k : ℕ) (a b : ScriptLine) → slice_get move_script k ≡ Some a → slice_get move_script (suc k) ≡ Some b → a.line < b.line

@@ -197,7 +197,6 @@ sound_of nodes policy some chosen script programs lines targets = record {
   pid_given = λ u a. refl;
   pid_entered = λ u t. refl;
   pid_forked = λ u c. refl;
-  answers = λ s. (policy s, refl);
   chosen = λ s c e. chosen s c (sym e);
   fits_asks = λ u r e. refl;
   fits_serve = λ k p u r d a n e. refl;

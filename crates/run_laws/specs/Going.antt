@@ -1,7 +1,8 @@
--- When what is due can be done: what a machine and its script need so that a turn can be made wherever a kind of turn applies.
-use Rattle.std.specs.Prelude.{◌≡◌, ◌≢◌, ◌≤◌, ◌<◌, ℕ, suc, ◌+◌, nat_lt, true, Some, None, List, slice_get}
+-- When what is due can be done: what a machine, its script and its policy need so that a turn can be made wherever a kind of turn applies.
+use Rattle.std.specs.Prelude.{◌≡◌, ◌≢◌, ◌≤◌, ◌<◌, ℕ, suc, ◌+◌, nat_lt, true, Option, Some, None, List, slice_get}
 use Rattle.node_event.specs.declared.script.Order.TheVariants as order
 use Rattle.node_event.specs.declared.script.ScriptLine.{ScriptLine}
+use Rattle.protocol.specs.Gossip.{Sight, Choice}
 use Rattle.protocol.specs.Ops.{Ops}
 use Rattle.protocol.specs.Deeds.{runs_before, feeds_before}
 
@@ -16,3 +17,5 @@ pub record Able (O : Ops) : Type 0 where
   pub quantum : 1 ≤ O.quantum
   pub goes : (u : O.User) → O.asks u ≡ None → O.went u 1 ≢ None
   pub more : (u v : O.User) (k : ℕ) → O.went u k ≡ Some v → O.went u (k + 1) ≡ O.went v 1
+  -- a policy has an answer on all that it sees
+  pub answers : (s : Sight) → (c : Option Choice) × O.Chooses s c
