@@ -25,10 +25,15 @@ module _ {C : Type 0} where
   IsPlaceOf side node None = carrier_to side node ≡ None
   IsPlaceOf side node (Some at) = IsPlace side node at
 
-  -- the same carriers towards the same nodes: whatever was a pair with one is a pair with it now
-  pub record SameSide (pair : C → C → Type 0) (old new : List (Towards C)) : Type 0 where
-    pub nodes : map (λ t. t.node) new ≡ map (λ t. t.node) old
-    pub each : (m : ℕ) (now : C) → carrier_to new m ≡ Some now → (was : C) × (carrier_to old m ≡ Some was) × Keeps pair was now
+  -- the same carrier: whatever was a pair with it is a pair with it now
+  abbrev pub SameCarrier : (C → C → Type 0) → Option C → Option C → Type 0
+  SameCarrier pair None None = Unit {0}
+  SameCarrier pair (Some was) (Some now) = Keeps pair was now
+  SameCarrier pair _ _ = ⊥
+
+  -- the same carriers towards the same nodes
+  abbrev pub SameSide : (C → C → Type 0) → List (Towards C) → List (Towards C) → Type 0
+  SameSide pair old new = (m : ℕ) → SameCarrier pair (carrier_to old m) (carrier_to new m)
 
   module _ (puts gives : C → List Letter) (pair : C → C → Type 0) where
     -- the list, unless the letter was given back
