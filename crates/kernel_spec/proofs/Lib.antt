@@ -1,3 +1,10 @@
 pub mod PidLemmas
+pub mod PlaceLemmas
 pub mod GivenLemmas
+pub mod TreeFacts
+pub mod SignalFacts
+pub mod CallFacts
+pub mod KernelFacts
+pub mod AnswerFacts
+pub mod LiveSums
 pub mod Blocking

@@ -3,3 +3,5 @@ pub mod Processes
 pub mod Io
 pub mod Kernel
 pub mod Calls
+pub mod Answers
+pub mod Others

@@ -43,11 +43,11 @@ stands_once (x ∷ rest) h (suc k) s e = ap (λ (b : Bool). cond b (Some x.order
 -- an order that is found stands in the script
 pub found : (script : Script) (line : ℕ) (o : Order) → order_at line script ≡ Some o → (k : ℕ) × (s : ScriptLine) × (slice_get script k ≡ Some s) × (s.order ≡ o)
 found [] line o e = absurd cc
-found (x ∷ rest) line o e = go (x.line == line) e
+found (x ∷ rest) line o e = go (x.line == line) e (λ f. found rest line o f)
   where
-    go : (b : Bool) → cond b (Some x.order) (order_at line rest) ≡ Some o → (k : ℕ) × (s : ScriptLine) × (slice_get (x ∷ rest) k ≡ Some s) × (s.order ≡ o)
-    go true f = let same : x.order ≡ o = cc in (0, x, refl, same)
-    go false f = let r = found rest line o f in (suc r.0, r.1, r.2, r.3)
+    go : (b : Bool) → cond b (Some x.order) (order_at line rest) ≡ Some o → (order_at line rest ≡ Some o → (k : ℕ) × (s : ScriptLine) × (slice_get rest k ≡ Some s) × (s.order ≡ o)) → (k : ℕ) × (s : ScriptLine) × (slice_get (x ∷ rest) k ≡ Some s) × (s.order ≡ o)
+    go true f further = let same : x.order ≡ o = cc in (0, x, refl, same)
+    go false f further = let r = further f in (suc r.0, r.1, r.2, r.3)
 
 -- ---- each `run` line has its context, each `type` line its text
 

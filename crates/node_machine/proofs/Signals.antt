@@ -10,7 +10,7 @@ use Rattle.signal_set.specs.Acts.{taken_by}
 use Rattle.kernel_spec.specs.Processes.{is_handled, taken_of, take_of, live_signals}
 use Rattle.kernel_spec.specs.Kernel.{KernelState, AfterTake, after_took, after_taken}
 use Rattle.user_spec.specs.User.{UserState}
-use Rattle.node_machine.specs.Fits.{fits_taken, has_room_at}
+use Rattle.user_spec.specs.Fits.{fits_taken, has_room_at}
 use Rattle.node_machine.specs.Machine.{took_as, taken_at}
 
 abbrev Suits : Bool → Taken → Type 0

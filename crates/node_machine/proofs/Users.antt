@@ -25,9 +25,7 @@ use Rattle.user_spec.specs.Instruction.{Core, Ran, one_instruction}
 use Rattle.user_spec.specs.Request.{number_of, args_of, stack_pointer, buffer_of, buffer_address, buffer_bytes, has_buffer, is_read, handed_bytes, frame_at, frame_words, frame_word, frame_registers, returned_pointer, has_frame_room, returned, returned_as, call_request, fault_request, asked_args, local_call, is_local_call, with_value, with_brk, with_break, is_break, pages_with_break}
 use Rattle.user_spec.specs.Advance.{Went, Done, AtCall, Faults, advance, request_of, asked_at, with_core, went_of, went_by, at_call, core_of, advanced, on_done, counted}
 use Rattle.node_machine.specs.Plan.{user_at}
-use Rattle.kernel_spec.specs.Answers.{fits_kind}
-use Rattle.node_machine.specs.Fits.{fits_request, fits_fault, fits_call, handed_len, read_len, fits_answer, has_room_at}
-use Rattle.node_machine.specs.Machine.{entered_by}
+use Rattle.user_spec.specs.Fits.{fits_request, fits_fault, fits_call, handed_len, read_len, fits_answer, fits_kind, has_room_at, entered_by}
 use Rattle.node_machine.proofs.Pages.{same_room, len_bytes, len_words}
 use Rattle.node_machine.proofs.Faulting.{FineWent, advance_fine}
 
@@ -79,7 +77,7 @@ return_room u a e = ap (has_frame_room u.pages) (second u.pages (stack_pointer u
 fork_is : (n : ℕ) → (n == FORK) ≡ true → (n == SIGRETURN) ≡ false
 fork_is n e = grind (arith, nat_tests)
 
-by_kind : (kind : Kind) (u : UserState) (a : Answer) → fits_kind kind (number_of u) (buffer_of u) a ≡ true → has_room_at (returned_as kind u a) ≡ has_frame_room u.pages (returned_pointer u)
+by_kind : (kind : Kind) (u : UserState) (a : Answer) → fits_kind kind u a ≡ true → has_room_at (returned_as kind u a) ≡ has_frame_room u.pages (returned_pointer u)
 by_kind Plain u a fits = plain_room u a ∙ ap (has_frame_room u.pages) (sym (kept_pointer u (not_true _ (and_left (not (number_of u == SIGRETURN)) _ fits))))
 by_kind Fork u a fits = fork_room u a ∙ ap (has_frame_room u.pages) (sym (kept_pointer u (fork_is (number_of u) (and_left (number_of u == FORK) _ fits))))
 by_kind Return u a fits = return_room u a (and_left (number_of u == SIGRETURN) _ fits)

@@ -1,5 +1,4 @@
 pub mod Plan
-pub mod Fits
 pub mod Machine
 pub mod Policy
 pub mod Laws

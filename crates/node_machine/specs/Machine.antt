@@ -1,27 +1,23 @@
 -- The one-node machine as the laws take it. Its operations are the definitions of the kernel and of the user state. No process has the pid 0.
-use Rattle.std.specs.Prelude.{◌≡◌, ℕ, zero, suc, ◌==◌, ◌||◌, Bool, true, false, cond, is_some, Option, Some, None, ℤ, List, length, slice_index}
+use Rattle.std.specs.Prelude.{ℕ, ◌==◌, ◌||◌, Bool, true, cond, is_some, Option, Some, None, List, length, slice_index}
 use Rattle.std.specs.Option.{option_map}
 use Rattle.call_table.specs.Calls.{is_signal_number}
 use Rattle.call_table.specs.declared.error.TheConstants.{EINTR}
-use Rattle.call_table.specs.declared.request.Kind.{Kind}
-use Rattle.call_table.specs.declared.request.Kind.TheVariants as kind
 use Rattle.call_table.specs.declared.request.Request.{Request}
 use Rattle.call_table.specs.declared.request.Answer.{Answer}
 use Rattle.call_table.specs.declared.request.Taken.{Taken}
 use Rattle.call_table.specs.declared.request.Taken.TheVariants as taken
-use Rattle.call_table.specs.declared.process.End.{End}
 use Rattle.call_table.specs.declared.process.End.TheVariants as ends
 use Rattle.user_spec.specs.User.{UserState, need_of_user}
-use Rattle.user_spec.specs.Request.{returned, forked, entered}
+use Rattle.user_spec.specs.Request.{returned, forked}
 use Rattle.user_spec.specs.Advance.{advanced, grows, request_of}
+use Rattle.user_spec.specs.Fits.{child_of, entered_by, fits_request, fits_answer, fits_taken, has_room_at}
 use Rattle.kernel_spec.specs.Processes.{heeding}
 use Rattle.kernel_spec.specs.Kernel.{KernelState, Called, AfterTake, no_process, given, is_live, end_at, has_room, with_process, with_raised, with_end, raised_by_end, deliverable, take_result, value_answer, fed}
 use Rattle.kernel_spec.specs.Calls.{call_result}
 use Rattle.protocol.specs.Gossip.{Sight, Choice}
-use Rattle.protocol.specs.Deeds.{positive}
 use Rattle.protocol.specs.Ops.{Ops, Acted, Took, Fallen}
 use Rattle.node_machine.specs.Plan.{Plan, texts, text_at, user_at}
-use Rattle.node_machine.specs.Fits.{fits_request, fits_answer, fits_taken, has_room_at}
 
 -- what a policy may answer on a sight
 abbrev pub Policy : Type 1
@@ -29,14 +25,8 @@ Policy = Sight → Option Choice → Type 0
 
 -- ---- calls
 
--- the child of a fork
-abbrev pub child_as : Kind → ℤ → Option ℕ
-child_as kind.Plain value = None
-child_as kind.Fork value = positive value
-child_as kind.Return value = None
-
 abbrev pub acted : Called → Acted KernelState Answer
-acted c = record { kernel = c.kernel; answer = c.answer; child = child_as c.answer.kind c.answer.value; raised = c.raised }
+acted c = record { kernel = c.kernel; answer = c.answer; child = child_of c.answer; raised = c.raised }
 
 -- None exactly where the call blocks, at the pid 0, and for a fault, which is no call
 abbrev pub serve_at : KernelState → ℕ → Request → Option (Acted KernelState Answer)
@@ -59,11 +49,6 @@ taken_at k p room = took_as k (take_result k p room)
 -- a process ends by the signal of its fault
 abbrev pub fallen : KernelState → ℕ → ℕ → Fallen KernelState
 fallen k p signal = record { kernel = with_end k p (ends.Signal signal); raised = raised_by_end k p }
-
--- the process at the handler of a signal that it does not die of
-abbrev pub entered_by : UserState → Taken → UserState
-entered_by u (taken.Dies signal) = u
-entered_by u (taken.Enters signal handler restorer mask) = entered u signal handler restorer mask
 
 -- ---- launches and input
 

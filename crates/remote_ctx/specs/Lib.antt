@@ -1,1 +1,3 @@
 pub mod Hosted
+pub mod Kept
+pub mod Acting

@@ -2,5 +2,15 @@
 #![tactic(auto)]
 
 mod context;
+mod hosted;
+mod mail;
+mod pids;
+mod place;
+mod quantum;
+mod replies;
+mod sending;
+mod standing;
 
 pub use context::{Context, KeptMove, Stance};
+pub use hosted::Hosted;
+pub use quantum::Ran;

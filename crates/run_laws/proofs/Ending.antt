@@ -36,7 +36,7 @@ module _ (O : Ops) (S : Sound O) where
         done_rests = done_rests O S h s.spots w s.path b.machine b.agrees;
         still = λ rest t v goes. no_turn O S h s.spots w s.path s.stands S.some rest t v goes;
         goes = λ able k n below x. can_go O S h s.spots w s.path s.stands able k n below x;
-        takes = λ a b l rest lies. can_take O S h s.spots w s.path s.stands S.some a b l rest lies;
+        takes = λ answers a b l rest lies. can_take O S h s.spots w s.path s.stands S.some answers a b l rest lies;
         turns = λ n old t new off makes. kind_of O S n old t new off makes;
         full = λ room n. full_due O S h s.spots w s.path s.stands b.machine b.agrees room n;
         owned = owned O S h s.spots w s.path s.stands b.machine b.agrees;

@@ -15,6 +15,7 @@ use Rattle.protocol.proofs.Process.{cond_here, cond_off, cond_same, way_tells}
 use Rattle.protocol.proofs.Run.{Bound}
 use Rattle.protocol.proofs.Stand.{EachBound, Stands, Path}
 use Rattle.protocol.specs.Gossip.{Entry, Gossip, Choice, Movable, gossip_after}
+use Rattle.run_laws.specs.Going.{HasAnswers}
 use Rattle.run_laws.proofs.Here.{can_run, loaded, in_use, can_move}
 use Rattle.run_laws.proofs.Near.{far_to}
 use Rattle.protocol.proofs.Progress.{itself}
@@ -262,8 +263,8 @@ module _ (O : Ops) (S : Sound O) where
           let new : Local O = record { clock = max old.clock stamp + 1; kernel = old.kernel; slots = put c.pid (hosts O (Some (context O y.0 (Asking c.to None)))); believed = old.believed; progress = old.progress; gossip = gossip } in
           makes (Half places) (Begin c.pid c.to (Chosen true from)) ls new refl (record { body = y.0; was = y.1; away = x.2; why = talks (Some c) t new refl refl chooses; base = record { took = refl; posts = refl; slots = λ q. refl }; still = record { kernel = refl; believed = λ q. refl; progress = refl } })
 
-      half_made : Made (Half places)
-      half_made = let a = S.answers (seen O n own gossip.vector movable) in hear_made a.0 a.1
+      half_made : HasAnswers O → Made (Half places)
+      half_made answers = let a = answers (seen O n own gossip.vector movable) in hear_made a.0 a.1
 
     -- NoMove
     close_made : n ≡ 0 → (line : ℕ) → Made (NoMove line)
@@ -283,7 +284,7 @@ module _ (O : Ops) (S : Sound O) where
       go true false f g z = absurd cc
       go false k f g z = absurd cc
 
-  module _ (h : List (Turn O)) (sp : ℕ → Spot O) (w : World O) (path : Path O S h sp w) (st : Stands O S sp w) (some : 1 ≤ O.nodes) (a b : ℕ) (l : Post O) (rest : List (Post O)) (lies : w.links a b ≡ l ∷ rest) where
+  module _ (h : List (Turn O)) (sp : ℕ → Spot O) (w : World O) (path : Path O S h sp w) (st : Stands O S sp w) (some : 1 ≤ O.nodes) (answers : HasAnswers O) (a b : ℕ) (l : Post O) (rest : List (Post O)) (lies : w.links a b ≡ l ∷ rest) where
     here : (l.from ≡ a) × (l.to ≡ b)
     here = (subst (AllOn a b) lies (path_on h sp w path a b)).0
 
@@ -314,7 +315,7 @@ module _ (O : Ops) (S : Sound O) where
     made (Pause p r) e = let t = way_tells O p (sp p) _ (under p (Pause p r) e (same_numbers p p refl)) in pause_made b (w.nodes b) below a l.stamp t.3 p r
     made (Reply p d) e = let t = way_tells O p (sp p) _ (under p (Reply p d) e (same_numbers p p refl)) in reply_made b (w.nodes b) below a l.stamp p d t.0 t.2 t.1 (context_at p (Answered b t.0 t.1 d t.2 t.3) (context O t.0 (Waiting t.2 t.1)) t.4 (cond_here b _ None))
     made (Poke p) e = poke_made b (w.nodes b) below a l.stamp p
-    made (Half places) e = half_made b (w.nodes b) below a l.stamp places _ _ (loaded O S sp w st b) (in_use O S sp w st b) _ (can_move O S sp w st b)
+    made (Half places) e = half_made b (w.nodes b) below a l.stamp places _ _ (loaded O S sp w st b) (in_use O S sp w st b) _ (can_move O S sp w st b) answers
     made (Go p to hops line) e = go_made b (w.nodes b) below a l.stamp p to hops line
     made (NotHere p to hops line) e = back_made b (w.nodes b) below a l.stamp (subst (λ (m : Note O). Bound O (O.count (w.nodes 0).kernel) m b) e bound).0 p to hops line
     made (Ask p need) e = ask_made b (w.nodes b) below a l.stamp p need _ (in_use O S sp w st b)

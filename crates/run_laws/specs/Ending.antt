@@ -13,7 +13,7 @@ use Rattle.run_laws.specs.Schedule.{schedule}
 use Rattle.run_laws.specs.Due.{Same, DueAs, Due, LeastFull, IsFull}
 use Rattle.run_laws.specs.Ends.{Blocked, end_state, status, IsDone, DoneOrStuck}
 use Rattle.run_laws.specs.Owned.{Owned}
-use Rattle.run_laws.specs.Going.{Able}
+use Rattle.run_laws.specs.Going.{HasAnswers, Able}
 
 module _ (O : Ops) where
   pub record Ending (es : List Noted) (w : World O) : Type 0 where
@@ -30,8 +30,8 @@ module _ (O : Ops) where
     pub turns : (n : ℕ) (old : Local O) (t : Turn O) (new : Local O) → t.taken ≡ None → Makes O n old t new → (k : Kind) × Applies O k n old
     -- and where a kind applies such a turn can be made, if the machine and its script are able
     pub goes : Able O → (k : Kind) (n : ℕ) → n < O.nodes → Applies O k n (w.nodes n) → (t : Turn O) × (v : World O) × Goes O w t v × (t.taken ≡ None) × (t.event.node ≡ n)
-    -- so can one that takes a letter: the first on its link can be taken always
-    pub takes : (a b : ℕ) (l : Post O) (rest : List (Post O)) → w.links a b ≡ l ∷ rest → (t : Turn O) × (v : World O) × Goes O w t v × (t.taken ≡ Some l) × (t.event.node ≡ b)
+    -- so can one that takes a letter: the first on its link can be taken always, if the policy has an answer on what it sees then
+    pub takes : HasAnswers O → (a b : ℕ) (l : Post O) (rest : List (Post O)) → w.links a b ≡ l ∷ rest → (t : Turn O) × (v : World O) × Goes O w t v × (t.taken ≡ Some l) × (t.event.node ≡ b)
     -- the least node with a full journal that has something to do is the one at which an event is due
     pub full : (room n : ℕ) → Same (LeastFull room n es (λ k. Busy O k w)) (IsFull O room n es machine w)
     -- the status of a process is that it is blocked exactly where it is

@@ -6,6 +6,10 @@ use Rattle.protocol.specs.Gossip.{Sight, Choice}
 use Rattle.protocol.specs.Ops.{Ops}
 use Rattle.protocol.specs.Deeds.{runs_before, feeds_before}
 
+-- the policy has an answer on all that it sees
+abbrev pub HasAnswers : Ops → Type 0
+HasAnswers O = (s : Sight) → (c : Option Choice) × O.Chooses s c
+
 pub record Able (O : Ops) : Type 0 where
   -- the lines of the script rise
   pub rising : (k : ℕ) (a b : ScriptLine) → slice_get O.script k ≡ Some a → slice_get O.script (suc k) ≡ Some b → a.line < b.line
@@ -17,5 +21,4 @@ pub record Able (O : Ops) : Type 0 where
   pub quantum : 1 ≤ O.quantum
   pub goes : (u : O.User) → O.asks u ≡ None → O.went u 1 ≢ None
   pub more : (u v : O.User) (k : ℕ) → O.went u k ≡ Some v → O.went u (k + 1) ≡ O.went v 1
-  -- a policy has an answer on all that it sees
-  pub answers : (s : Sight) → (c : Option Choice) × O.Chooses s c
+  pub answers : HasAnswers O

@@ -15,3 +15,4 @@ pub mod Stored
 pub mod Ready
 pub mod Made
 pub mod Going
+pub mod Fitting

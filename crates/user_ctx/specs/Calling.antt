@@ -1,5 +1,5 @@
 -- Calls that end where the process runs.
-use Rattle.std.specs.Prelude.{ℕ, ◌≡◌, true, false, Option, Some, None}
+use Rattle.std.specs.Prelude.{ℕ, ◌≡◌, Bool, true, false, Option, Some, None}
 use Rattle.user_spec.specs.User.{UserState}
 use Rattle.user_spec.specs.Request.{is_break, break_maps, is_local_call, local_call, with_value}
 use Rattle.user_spec.specs.Advance.{advance, AtCall, Faults}
@@ -35,3 +35,11 @@ signal_of (Sets rd value next) = Some SIGSEGV
 abbrev pub AsksBy : Option ℕ → UserState → Type 0
 AsksBy None u = advance u ≡ AtCall
 AsksBy (Some signal) u = advance u ≡ Faults signal
+
+-- an environment call
+abbrev pub is_calling : Effect → Bool
+is_calling Calls = true
+is_calling (Raises signal) = false
+is_calling (Loads rd addr form) = false
+is_calling (Stores addr value width) = false
+is_calling (Sets rd value next) = false

@@ -1,23 +1,25 @@
 // A user process, seen as its state.
-ghost use Rattle.std.specs.Prelude.{◌≡◌, ◌≢◌, ◌∷◌, [], ◌<◌, ◌≤◌, ◌%◌, ◌^◌, ◌-◌, ◌+◌, true, false, replicate, Ok, Some, IsSome, IfOk, OnOk, OnErr, slice_set, slice_index, nat_lt, min};
+ghost use Rattle.std.specs.Prelude.{◌≡◌, ◌≢◌, ◌∷◌, [], ◌<◌, ◌≤◌, ◌%◌, ◌^◌, ◌-◌, ◌+◌, not, true, false, replicate, Ok, Some, IsSome, IfOk, OnOk, OnErr, slice_set, slice_index, nat_lt, min};
 ghost use Rattle.std.specs.FinMap as map;
 ghost use Rattle.page_set.specs.Pages.{with_bytes};
 ghost use Rattle.user_spec.specs.User.{UserState, need_of_user};
-ghost use Rattle.user_spec.specs.Request.{number_of, args_of, stack_pointer, frame_word, frame_registers, buffer_of, buffer_address, has_buffer, has_frame_room, handed_bytes, asked_args, returned_pointer, call_request, fault_request, returned, entered, forked, with_value, with_brk, with_break, is_break, break_maps};
+ghost use Rattle.user_spec.specs.Request.{number_of, args_of, stack_pointer, is_local_call, frame_word, frame_registers, buffer_of, buffer_address, has_buffer, has_frame_room, handed_bytes, asked_args, returned_pointer, call_request, fault_request, returned, entered, forked, with_value, with_brk, with_break, is_break, break_maps};
 ghost use Rattle.user_spec.specs.Advance.{Walk, Done, advance, walked, grows, counted, stepped, request_of};
+ghost use Rattle.user_spec.specs.Fits.{forwards, fits_answer, fits_buffer, fills, has_room_at};
 ghost use Rattle.user_ctx.specs.Stopping.{StopsAt, Leads, EndsAs, limited, IsAtEcall};
-ghost use Rattle.user_ctx.specs.Calling.{IsPlan, IsLocal, signal_of, AsksBy};
+ghost use Rattle.user_ctx.specs.Calling.{IsPlan, IsLocal, signal_of, AsksBy, is_calling};
 ghost use Rattle.user_ctx.specs.Heap.{mapped_for};
 
 use crate::heap::{self, HEAP_END};
 use crate::plan::Plan;
 use crate::{frame, step, steps};
-use call_table::call::{BRK, GETPID, SIGRETURN};
+use call_table::call::{BRK, FORK, GETPID, READ, SIGRETURN};
 use call_table::error::{EFAULT, ENOSYS};
 use call_table::limit::{PAGES, STEPS};
 use call_table::signal::{SIGSEGV, SIGXCPU};
 use call_table::{
-    Answer, Bytes, Kind, ListOf, Need, NoMemory, RIGHT_READ, Request, is_local, need_of,
+    Answer, Bytes, Kind, ListOf, Need, NoMemory, RIGHT_READ, RIGHT_WRITE, Request, is_local,
+    need_of,
 };
 use page_set::Pages;
 use std::alloc::Global;
@@ -481,6 +483,75 @@ impl User {
         }
     }
 
+    // ---- what it can get
+
+    /// Whether the call that the process is at does not end where it runs.
+    fn is_forwarded(&self) -> bool
+        ensures { result ≡ not (is_local_call self.now) }
+    {
+        if is_local(self.number()) {
+            return false;
+        }
+        self.has_buffer()
+    }
+
+    /// Whether it is at a forwarded call.
+    #[tactic(auto, using(crate::proofs::Fitting::full_forwards))]
+    pub fn is_at_call(&self) -> bool
+        ensures { result ≡ forwards (request_of self.now) }
+    {
+        if self.count >= STEPS {
+            return false;
+        }
+        if !is_calling(step::next(self.pc, &self.x, &self.pages)) {
+            return false;
+        }
+        self.is_forwarded()
+    }
+
+    /// Whether so many bytes fit the buffer that the call which the process is at writes.
+    fn fits_buffer(&self, len: usize) -> bool
+        ensures { result ≡ fits_buffer (number_of self.now) (buffer_of self.now) len }
+    {
+        match self.buffer() {
+            None => len == 0,
+            Some(need) => {
+                if len == 0 {
+                    return true;
+                }
+                if need.right != RIGHT_WRITE {
+                    return false;
+                }
+                fills(self.number() == READ, len, need.len as usize)
+            }
+        }
+    }
+
+    /// Whether the call that the process is at can get this answer.
+    pub fn fits_answer(&self, answer: &Answer) -> bool
+        ensures { result ≡ fits_answer self.now answer.now }
+    {
+        let number = self.number();
+        let len = answer.bytes.len();
+        match answer.kind {
+            Kind::Plain => number != SIGRETURN && self.fits_buffer(len),
+            Kind::Fork => number == FORK && (answer.value > 0 && len == 0),
+            Kind::Return => number == SIGRETURN && len == 0,
+        }
+    }
+
+    /// Whether there is room for a signal's frame after the return of the call that the process is at, with this answer.
+    #[tactic(auto, using(crate::proofs::Fitting::room_returned))]
+    pub fn room_after(&self, answer: &Answer) -> bool
+        requires { fits_answer self.now answer.now ≡ true }
+        ensures { result ≡ has_room_at (returned self.now answer.now) }
+    {
+        let _answer = answer;
+        self.returned_room()
+    }
+
+    // ---- the return
+
     /// The pc and the registers of the frame at the stack pointer.
     fn restore(&mut self)
         ensures { self.new ≡ record self.old { pc = frame_word self.old.pages (stack_pointer self.old) 0; registers = frame_registers self.old.pages (stack_pointer self.old) 1 31 } }
@@ -588,6 +659,26 @@ fn fault_request(alloc: Global, signal: u8) -> Request
         args: [signal as u32, 0, 0, 0, 0, 0],
         bytes: Bytes::new(alloc),
         room: false,
+    }
+}
+
+/// Whether so many bytes fill a buffer: those of a read may be fewer.
+fn fills(is_read: bool, len: usize, room: usize) -> bool
+    ensures { result ≡ fills is_read len room }
+{
+    if is_read { len <= room } else { len == room }
+}
+
+/// Whether an instruction is an environment call.
+fn is_calling(effect: Effect) -> bool
+    ensures { result ≡ is_calling effect }
+{
+    match effect {
+        Effect::Calls => true,
+        Effect::Raises(_) => false,
+        Effect::Loads { .. } => false,
+        Effect::Stores { .. } => false,
+        Effect::Sets { .. } => false,
     }
 }
 
