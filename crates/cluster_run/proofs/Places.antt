@@ -28,6 +28,9 @@ got_below [] i x e = absurd cc
 got_below (y ∷ ys) zero x e = omega arith
 got_below (y ∷ ys) (suc i) x e = let less : i < length ys = got_below ys i x e in omega (arith, less)
 
+some_same : {A : Type 0} (x y : A) → Some x ≡ Some y → x ≡ y
+some_same x y e = cc
+
 module _ {C : Type 0} where
   -- the carrier at the place
   place_is : (side : List (Towards C)) (node at : ℕ) (t : Towards C) → slice_get side at ≡ Some t → t.node ≡ node → ((i : ℕ) (u : Towards C) → i < at → slice_get side i ≡ Some u → u.node ≢ node) → carrier_to side node ≡ Some t.carrier
@@ -161,3 +164,21 @@ module _ {C : Type 0} where
         by_none : (o : Option Letter) → IfNone o (gives d ≡ gives c) → IfNone o (gives d ≡ gives t.carrier)
         by_none None s = s ∙ lists.1
         by_none (Some l) s = tt
+
+  -- the carrier at a place, as it was found there
+  module _ (side : List (Towards C)) (node at : ℕ) (place : IsPlace side node at) (t : Towards C) (e : Some t ≡ slice_get side at) where
+    found : t.node ≡ node
+    found = let s : Some t ≡ Some place.here = e ∙ place.is in ap (λ (u : Towards C). u.node) (some_same t place.here s) ∙ place.node_is
+
+    pub carrier_at : carrier_to side node ≡ Some t.carrier
+    carrier_at = place_is side node at t (sym e) found place.before
+
+    pub carrier_set : (c : C) → carrier_to (slice_set side at (record { node = t.node; carrier = c })) node ≡ Some c
+    carrier_set c = place_set side node at t (record { node = t.node; carrier = c }) (sym e) found found place.before node ∙ ap (λ (b : Bool). cond b (Some c) (carrier_to side node)) (eq-eqb node node refl)
+
+  module _ (puts gives : C → List Letter) (pair : C → C → Type 0) (side : List (Towards C)) (node at : ℕ) (place : IsPlace side node at) (t : Towards C) (e : Some t ≡ slice_get side at) (c : C) (keeps : Keeps pair t.carrier c) where
+    pub side_at : SameSide pair side (slice_set side at (record { node = t.node; carrier = c }))
+    side_at = side_set puts gives pair side node at (record { here = t; is = sym e; node_is = found side node at place t e; before = place.before }) (record { node = t.node; carrier = c }) (found side node at place t e) keeps
+
+    pub stays_at : (f : C → List Letter) → f c ≡ f t.carrier → (m : ℕ) → towards f (slice_set side at (record { node = t.node; carrier = c })) m ≡ towards f side m
+    stays_at f s m = stays puts gives pair side node at (record { here = t; is = sym e; node_is = found side node at place t e; before = place.before }) (record { node = t.node; carrier = c }) (found side node at place t e) keeps f s m

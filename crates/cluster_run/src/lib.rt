@@ -1,4 +1,5 @@
 // The runs of a cluster: nodes at their seats, linked by carriers.
 #![tactic(auto)]
 
+mod meeting;
 mod side;

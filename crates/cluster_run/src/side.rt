@@ -7,7 +7,7 @@ use call_table::NoMemory;
 use node_links::{Carrier, Side};
 
 /// The place of the carrier towards a node. None exactly where there is none.
-fn place_of<C>(side: &Side<C>, node: u8) -> Option<usize>
+pub fn place_of<C>(side: &Side<C>, node: u8) -> Option<usize>
     ensures { IsPlaceOf side.now node result }
 {
     for at in 0..side.len() {
