@@ -5,7 +5,7 @@ use Rattle.std.proofs.lemmas.Bool.{cases_Bool, eqb-true, eqb-false, lt-ltb, le-l
 use Rattle.std.proofs.lemmas.List.{length-take, length-append}
 use Rattle.call_table.specs.Calls.{need_of}
 use Rattle.call_table.specs.declared.call.TheConstants.{EXIT, GETPPID, FORK, WAIT, OPEN, CLOSE, READ, WRITE, LSEEK, PIPE, DUP, UNLINK, KILL, SIGACT, SIGRETURN, SIGMASK, YIELD}
-use Rattle.call_table.specs.declared.error.TheConstants.{ECHILD, EINTR}
+use Rattle.call_table.specs.declared.error.TheConstants.{ECHILD, EINTR, ENOSYS}
 use Rattle.call_table.specs.declared.limit.TheConstants.{FILE_BYTES, TRANSFER_BYTES}
 use Rattle.call_table.specs.declared.process.End.{End}
 use Rattle.call_table.specs.declared.request.Request.{Request}
@@ -157,7 +157,7 @@ row_fits number k p args bytes sp =
     row number SIGACT args sp _ _ refl (λ _.
     row number SIGRETURN args sp _ _ refl (λ other.
     row number SIGMASK args sp _ _ refl (λ _.
-    row number YIELD args sp _ _ refl (λ _. plain_fits number (need_of number args sp) _ other)))))))))))))))))
+    row number YIELD args sp _ _ refl (λ _. plain_fits number (need_of number args sp) ENOSYS other)))))))))))))))))
 
 -- every answer fits its call
 pub answer_fits : (k : KernelState) (p : ℕ) (asked : Request) (called : Called) (sp : ℕ) → call_result k p asked ≡ Some called → fits_answer asked.number (need_of asked.number asked.args sp) called.answer ≡ true

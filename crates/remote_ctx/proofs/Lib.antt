@@ -1,3 +1,7 @@
 pub mod Fitting
+pub mod Kept
 pub mod Lookup
+pub mod Placing
+pub mod Quanta
 pub mod Rising
+pub mod Turning

@@ -1,5 +1,5 @@
 -- Pids in rising order: what a search finds, and what an edit at that place does.
-use Rattle.std.proofs.Common.{◌≡◌, ◌≢◌, ◌⊎◌, inl, inr, ℕ, zero, suc, ◌+◌, ◌-◌, ◌<◌, ◌≤◌, ◌==◌, ◌&&◌, ◌||◌, not, cond, Bool, true, false, List, [], ◌∷◌, length, get_or, Option, Some, None, Result, Ok, Err, IfOk, IfErr, MatchResult, refl, sym, ap, ◌∙◌, subst, arith, slice_index}
+use Rattle.std.proofs.Common.{◌≡◌, ◌≢◌, ◌⊎◌, inl, inr, ℕ, zero, suc, ◌+◌, ◌-◌, ◌<◌, ◌≤◌, ◌==◌, ◌&&◌, ◌||◌, not, cond, Bool, true, false, List, [], ◌∷◌, length, get_or, Option, Some, None, Result, Ok, Err, IfOk, IfErr, IsOk, is_ok, if◌then◌else◌, MatchResult, refl, sym, ap, ◌∙◌, subst, arith, slice_index}
 use Rattle.std.specs.List.{insert, remove}
 use Rattle.std.specs.List.Sorted.{IsBinarySearchResult}
 use Rattle.std.specs.Ordering.{nat_cmp}
@@ -19,7 +19,7 @@ rises pids rising i j le lt = grind (arith, rising i j, λ (same : i ≡ j). ap 
 
 sought_as : (pids : List ℕ) (pid : ℕ) (r : Result ℕ ℕ) → MatchResult r (λ i. (i < length pids) × (get_or pids i 0 ≡ pid)) (λ i. (i ≤ length pids) × ((k : ℕ) → k < i → get_or pids k 0 < pid) × ((k : ℕ) → i ≤ k → k < length pids → pid < get_or pids k 0)) → Sought pids pid r
 sought_as pids pid (Ok i) h = record { found = record { in_range = h.0; is = h.1 }; absent = tt }
-sought_as pids pid (Err i) h = record { found = tt; absent = record { in_range = h.0; below = h.1.0; above = h.1.1 } }
+sought_as pids pid (Err i) h = record { found = tt; absent = record { in_range = h.0; below = h.1; above = h.2 } }
 
 pub sought : (pids : List ℕ) (pid : ℕ) (r : Result ℕ ℕ) → IsRising pids → IsBinarySearchResult (λ y. nat_cmp y pid) pids r → Sought pids pid r
 sought pids pid r rising found = sought_as pids pid r (searched pids pid r found (rises pids rising))
@@ -45,11 +45,11 @@ at_has pids pid i at = subst (λ (p : ℕ). has p pids ≡ true) at.is (has_at p
 -- and each member has a place
 pub place_in : (pids : List ℕ) (q : ℕ) → has q pids ≡ true → (i : ℕ) × (i < length pids) × (slice_index pids i ≡ q)
 place_in [] q h = absurd (let z : false ≡ true = h in cc)
-place_in (x ∷ xs) q h = go (q == x) refl h
+place_in (x ∷ xs) q h = go (q == x) refl h (place_in xs q)
   where
-    go : (b : Bool) → (q == x) ≡ b → (b || has q xs) ≡ true → (i : ℕ) × (i < length (x ∷ xs)) × (slice_index (x ∷ xs) i ≡ q)
-    go true e h = (0, (omega arith, grind (arith, nat_tests)))
-    go false e h = let r = place_in xs q h in (suc r.0, (let lt = r.1.0 in omega (arith, lt), r.1.1))
+    go : (b : Bool) → (q == x) ≡ b → (b || has q xs) ≡ true → (has q xs ≡ true → (i : ℕ) × (i < length xs) × (slice_index xs i ≡ q)) → (i : ℕ) × (i < length (x ∷ xs)) × (slice_index (x ∷ xs) i ≡ q)
+    go true e h ih = (0, omega arith, grind (arith, nat_tests))
+    go false e h ih = let r = ih h in (suc r.0, (let lt = r.1 in omega (arith, lt)), r.2)
 
 -- ---- a pid more
 
@@ -90,11 +90,11 @@ rising_remove l at within rising i j lt in_range =
     let above : (i : ℕ) → at ≤ i → slice_index new i ≡ slice_index l (i + 1) = λ i above. get_or-remove_above l at 0 i above within in
     grind (arith, below i, above i, below j, above j, rising i j, rising i (j + 1), rising (i + 1) (j + 1))
 
-tail_rising : (x : ℕ) (xs : List ℕ) → IsRising (x ∷ xs) → IsRising xs
+pub tail_rising : (x : ℕ) (xs : List ℕ) → IsRising (x ∷ xs) → IsRising xs
 tail_rising x xs rising i j lt in_range = rising (suc i) (suc j) (omega arith) (omega arith)
 
 -- the first is no member of the rest
-first_apart : (x : ℕ) (xs : List ℕ) → IsRising (x ∷ xs) → has x xs ≡ false
+pub first_apart : (x : ℕ) (xs : List ℕ) → IsRising (x ∷ xs) → has x xs ≡ false
 first_apart x xs rising = lacks xs x (λ j lt same. let r : x < slice_index xs j = rising 0 (suc j) (omega arith) (omega arith) in omega (arith, r, same))
 
 has_remove : (pids : List ℕ) (i : ℕ) → i < length pids → IsRising pids → (q : ℕ) → has q (remove pids i) ≡ cond (q == slice_index pids i) false (has q pids)
@@ -108,6 +108,7 @@ has_remove (x ∷ xs) (suc i) lt rising q = go (q == x) (q == slice_index xs i) 
   where
     other : x < slice_index xs i
     other = rising 0 (suc i) (omega arith) lt
+
     go : (a b : Bool) → (q == x) ≡ a → (q == slice_index xs i) ≡ b → has q (remove xs i) ≡ cond b false (has q xs) → (a || has q (remove xs i)) ≡ cond b false (a || has q xs)
     go true true ea eb h = absurd (let a : q ≡ x = grind (arith, nat_tests) in let b : q ≡ slice_index xs i = grind (arith, nat_tests) in omega (arith, a, b, other))
     go true false ea eb h = refl
@@ -145,7 +146,7 @@ cut_gap pids after i gap = record {
 next_above : (pids : List ℕ) (after i p : ℕ) → IsRising pids → IsCut pids after i → i < length pids → slice_index pids i ≡ p → (q : ℕ) → has q pids ≡ true → after < q → p ≤ q
 next_above pids after i p rising at lt is q h above =
     let r = place_in pids q h in
-    grind (arith, at.below r.0, rises pids rising i r.0, r.1.0, r.1.1, is)
+    grind (arith, at.below r.0, rises pids rising i r.0, r.1, r.2, is)
 
 pub next_cut : (pids : List ℕ) (after i p : ℕ) → IsRising pids → IsCut pids after i → i < length pids → slice_index pids i ≡ p → IsNext (λ q. has q pids) after p
 next_cut pids after i p rising at lt is = record {
@@ -157,10 +158,21 @@ pub next_first : (pids : List ℕ) (after i p : ℕ) → IsRising pids → IsCut
 next_first pids after i p rising at past some is = record {
   is = subst (λ (x : ℕ). has x pids ≡ true) is (has_at pids 0 some);
   least = inr (
-    (λ q h. let r = place_in pids q h in grind (arith, at.below r.0, r.1.0, r.1.1)),
-    (λ q h. let r = place_in pids q h in grind (arith, rises pids rising 0 r.0, r.1.0, r.1.1, is)));
+    (λ q h. let r = place_in pids q h in grind (arith, at.below r.0, r.1, r.2)),
+    (λ q h. let r = place_in pids q h in grind (arith, rises pids rising 0 r.0, r.1, r.2, is)),
+  );
 }
 
 pub next_none : (pids : List ℕ) → length pids ≡ 0 → NonePasses (λ q. has q pids)
 next_none [] h = record { none = λ q. refl }
 next_none (x ∷ xs) h = absurd (omega arith)
+
+-- ---- what is not both
+
+pub not_both : (b : Bool) → b ≡ true → b ≡ false → ⊥
+not_both b h k = let z : true ≡ false = sym h ∙ k in cc
+
+-- what was inserted, where that cannot fail
+pub inserted : {A B X : Type 0} (r : Result A B) (new old more : List X) → IsOk r → new ≡ (if is_ok r then more else old) → new ≡ more
+inserted (Ok x) new old more h e = e
+inserted (Err x) new old more h e = absurd (let z : false ≡ true = h in cc)

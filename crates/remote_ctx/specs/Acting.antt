@@ -1,5 +1,5 @@
 -- What the calls on the contexts of a node do.
-use Rattle.std.specs.Prelude.{◌≡◌, ℕ, ◌+◌, ◌-◌, ◌^◌, ◌<◌, ◌≤◌, ◌⊎◌, ◌==◌, ◌&&◌, not, nat_lt, is_none, slice_get, slice_set, cond, Bool, true, false, Option, Some, None, List, [], ◌∷◌}
+use Rattle.std.specs.Prelude.{◌≡◌, ℕ, ◌+◌, ◌-◌, ◌^◌, ◌<◌, ◌≤◌, ◌⊎◌, ◌==◌, ◌&&◌, not, nat_lt, is_none, slice_get, slice_set, IsSome, cond, Bool, true, false, Option, Some, None, List, [], ◌∷◌}
 use Rattle.std.specs.Option.{option_map}
 use Rattle.call_table.specs.declared.request.Request.{Request}
 use Rattle.call_table.specs.declared.request.Answer.{Answer}
@@ -128,13 +128,31 @@ pub record GoesIn (result : Ran) (change : Change) (quantum : ℕ) (old new : Co
   pub after : change.after ≡ pages_of new
   pub few : change.after < 2 ^ 32
 
--- a process makes steps, or is at a call or a fault and stays
-pub record RunsOn (result : Ran) (pid quantum : ℕ) (old new : List Context) : Type 0 where
+-- a process makes steps
+pub record StepsOn (k pid quantum : ℕ) (old new : List Context) : Type 0 where
   pub context : Context
   pub user : UserState
   pub here : lookup pid old ≡ Some context
-  pub ran : RanAs result quantum context.user user
+  pub went : Went k quantum context.user user
   pub puts : Puts pid (Some (with_user user context)) old new
+
+-- or it is at a call or a fault, and nothing changes
+pub record StopsOn (stops : UserState → Type 0) (pid : ℕ) (old new : List Context) : Type 0 where
+  pub context : Context
+  pub here : lookup pid old ≡ Some context
+  pub stop : stops context.user
+  pub same : new ≡ old
+
+abbrev pub RunsAs : Ran → ℕ → ℕ → List Context → List Context → Type 0
+RunsAs (ran.Steps k) pid quantum old new = StepsOn k pid quantum old new
+RunsAs ran.AtCall pid quantum old new = StopsOn (λ u. advance u ≡ AtCall) pid old new
+RunsAs ran.AtFault pid quantum old new = StopsOn (λ u. (signal : ℕ) × (advance u ≡ Faults signal)) pid old new
+
+-- what it is that a process asks then
+abbrev pub AsksAfter : Ran → Option Request → Type 0
+AsksAfter (ran.Steps k) request = Unit {0}
+AsksAfter ran.AtCall request = IsSome request
+AsksAfter ran.AtFault request = IsSome request
 
 -- ---- what goes home
 

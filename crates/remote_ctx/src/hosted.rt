@@ -1,8 +1,9 @@
 // The contexts at a node.
-ghost use Rattle.std.specs.Prelude.{◌≡◌, ℕ, ◌+◌, ◌-◌, ◌<◌, ◌≤◌, ◌^◌, cond, true, false, Some, None, IsSome, [], length, min, MatchOption, IfOk, OnOk, OnErr, option_copied};
+ghost use Rattle.std.specs.Prelude.{◌≡◌, ℕ, Option, ◌+◌, ◌-◌, ◌<◌, ◌≤◌, ◌^◌, cond, true, false, Some, None, IsSome, [], length, min, MatchOption, IfOk, OnOk, OnErr, option_copied};
 ghost use Rattle.std.specs.Option.{option_map};
+ghost use Rattle.call_forward.specs.declared.state.State.TheVariants as state;
 ghost use Rattle.remote_ctx.specs.Hosted.{lookup, AreApart, Puts, Changes, runs_at, IsNext, NonePasses, IsRising, has, state_of, pages_of, pages_here};
-ghost use Rattle.remote_ctx.specs.Acting.{fresh, standing, asks_at, holds_for, has_kept, asks_node, is_awake, stance_of, poked_as, room_of, kept_of, asked_of, RunsOn, fits_here, with_replied, TakesOut};
+ghost use Rattle.remote_ctx.specs.Acting.{fresh, standing, asks_at, waits_at, holds_for, has_kept, asks_node, is_awake, stance_of, poked_as, room_of, kept_of, asked_of, RunsAs, AsksAfter, fits_here, with_replied, TakesOut};
 
 use crate::context::{Context, KeptMove, Stance};
 use crate::pids;
@@ -44,6 +45,20 @@ impl Model for Hosted {
     ghost invariant = { λ h. IsKept h.contexts.items h.running.items (vec_capacity h.running) h.total };
 }
 
+/// A process that comes: it runs.
+fn fresh(pid: u32, user: User, hops: u32) -> Context
+    requires { user.pid ≡ pid }
+    ensures { result ≡ fresh user hops }
+{
+    Context {
+        pid,
+        user,
+        hops,
+        poked: false,
+        state: Stance::Running,
+    }
+}
+
 /// A sum of pages in which those of one context changed.
 fn counted(total: u128, change: Change) -> u128
     requires within { change.before ≤ total }
@@ -54,7 +69,7 @@ fn counted(total: u128, change: Change) -> u128
 }
 
 impl Hosted {
-    /// No context.
+    /// No context. It takes no memory.
     pub fn new(alloc: Global) -> Hosted
         ensures { result ≡ [] }
     {
@@ -79,7 +94,10 @@ impl Hosted {
 
     /// How the process stands. None exactly where it is not here.
     pub fn state(&self, pid: u32) -> Option<State>
-        ensures { result ≡ option_map state_of (lookup pid self.now) }
+        ensures is { result ≡ option_map state_of (lookup pid self.now) }
+        ensures runs { result ≡ Some state.Running → runs_at pid self.now ≡ true }
+        ensures waits { result ≡ Some state.Waiting → waits_at pid self.now ≡ true }
+        ensures asks { (to : ℕ) (line : Option ℕ) → result ≡ Some (state.Asking to line) → asks_at pid self.now ≡ true }
     {
         match self.find(pid) {
             None => None,
@@ -237,34 +255,32 @@ impl Hosted {
     {
         let pid = user.pid();
         let pages = user.need();
-        let Err(place) = place_of(&self.contexts, pid) else {
-            return Ok(());
-        };
-        reserve(&mut self.contexts, &mut self.running)?;
-        pids::note(&mut self.running, pid, false, true);
-        let context = Context {
-            pid,
-            user,
-            hops,
-            poked: false,
-            state: Stance::Running,
-        };
-        insert(&mut self.contexts, place, context);
-        self.total += pages as u128;
-        Ok(())
+        match place_of(&self.contexts, pid) {
+            Ok(_) => Ok(()),
+            Err(place) => {
+                reserve(&mut self.contexts, &mut self.running)?;
+                pids::note(&mut self.running, pid, false, true);
+                insert(&mut self.contexts, place, fresh(pid, user, hops));
+                self.total += pages as u128;
+                Ok(())
+            }
+        }
     }
 
     /// Takes a context out. None exactly where it is not here.
     pub(crate) fn take_out(&mut self, pid: u32) -> Option<Context>
         ensures { TakesOut result pid self.old self.new }
     {
-        let Ok(place) = place_of(&self.contexts, pid) else {
-            return None;
-        };
-        let context = self.contexts.remove(place);
-        pids::note(&mut self.running, pid, is_running(&context.state), false);
-        self.total -= context.user.need() as u128;
-        Some(context)
+        match place_of(&self.contexts, pid) {
+            Err(_) => None,
+            Ok(place) => {
+                let context = self.contexts.remove(place);
+                let ran = is_running(&context.state);
+                pids::note(&mut self.running, pid, ran, false);
+                self.total -= context.user.need() as u128;
+                Some(context)
+            }
+        }
     }
 
     /// Changes how a context stands.
@@ -272,12 +288,14 @@ impl Hosted {
         requires { IsSome (lookup pid self.old) }
         ensures { Changes pid (standing poked state) self.old self.new }
     {
-        let Ok(place) = place_of(&self.contexts, pid) else {
-            return;
-        };
-        let runs = is_running(&state);
-        let ran = stand_at(&mut self.contexts, place, poked, state);
-        pids::note(&mut self.running, pid, ran, runs);
+        match place_of(&self.contexts, pid) {
+            Err(_) => {}
+            Ok(place) => {
+                let runs = is_running(&state);
+                let ran = stand_at(&mut self.contexts, place, poked, state);
+                pids::note(&mut self.running, pid, ran, runs);
+            }
+        }
     }
 
     /// A process gets what its call or its pause came to.
@@ -285,11 +303,13 @@ impl Hosted {
         requires { fits_here (lookup pid self.old) done.now ≡ true }
         ensures { Changes pid (with_replied done.now) self.old self.new }
     {
-        let Ok(place) = place_of(&self.contexts, pid) else {
-            return;
-        };
-        let change = reply_at(&mut self.contexts, place, done);
-        self.total = counted(self.total, change);
+        match place_of(&self.contexts, pid) {
+            Err(_) => {}
+            Ok(place) => {
+                let change = reply_at(&mut self.contexts, place, done);
+                self.total = counted(self.total, change);
+            }
+        }
     }
 
     /// A turn of a process that runs: at most a quantum of steps, up to a forwarded call, a fault, or a growth that is not the first of them.
@@ -297,14 +317,17 @@ impl Hosted {
     pub fn run(&mut self, pid: u32, quantum: u32) -> Result<Ran, NoMemory>
         requires runs { runs_at pid self.old ≡ true }
         requires some { 1 ≤ quantum }
-        ensures ok { IfOk result (λ ran. RunsOn ran pid quantum self.old self.new) }
+        ensures ok { IfOk result (λ ran. RunsAs ran pid quantum self.old self.new) }
+        ensures asks { IfOk result (λ ran. AsksAfter ran (asked_of (lookup pid self.new))) }
         ensures err { OnErr result (self.new ≡ self.old) }
     {
-        let Ok(place) = place_of(&self.contexts, pid) else {
-            return Err(NoMemory);
-        };
-        let (ran, change) = go_at(&mut self.contexts, place, quantum)?;
-        self.total = counted(self.total, change);
-        Ok(ran)
+        match place_of(&self.contexts, pid) {
+            Err(_) => Err(NoMemory),
+            Ok(place) => {
+                let (ran, change) = go_at(&mut self.contexts, place, quantum)?;
+                self.total = counted(self.total, change);
+                Ok(ran)
+            }
+        }
     }
 }

@@ -10,6 +10,8 @@ mod quantum;
 mod replies;
 mod sending;
 mod standing;
+#[cfg(test)]
+mod tests;
 
 pub use context::{Context, KeptMove, Stance};
 pub use hosted::Hosted;

@@ -22,8 +22,11 @@ fn add(pids: &mut Vec<u32>, pid: u32)
     ensures count { length pids.new.items ≡ length pids.old.items + 1 }
     ensures capacity { vec_capacity pids.old ≤ vec_capacity pids.new }
 {
-    if let Err(place) = search(pids, pid) {
-        let _inserted = pids.insert(place, pid);
+    match search(pids, pid) {
+        Ok(_) => {}
+        Err(place) => {
+            let _inserted = pids.insert(place, pid);
+        }
     }
 }
 
@@ -36,12 +39,16 @@ fn remove(pids: &mut Vec<u32>, pid: u32)
     ensures count { length pids.new.items + 1 ≡ length pids.old.items }
     ensures capacity { vec_capacity pids.old ≤ vec_capacity pids.new }
 {
-    if let Ok(place) = search(pids, pid) {
-        let _pid = pids.remove(place);
+    match search(pids, pid) {
+        Ok(place) => {
+            let _pid = pids.remove(place);
+        }
+        Err(_) => {}
     }
 }
 
 /// Notes whether a process runs, of which it is known whether it ran.
+#[tactic(auto, using(crate::proofs::Rising::notes_same))]
 pub fn note(pids: &mut Vec<u32>, pid: u32, ran: bool, runs: bool)
     requires rising { IsRising pids.old.items }
     requires ran { has pid pids.old.items ≡ ran }
@@ -62,6 +69,7 @@ pub fn note(pids: &mut Vec<u32>, pid: u32, ran: bool, runs: bool)
 }
 
 /// How many pids are at most `after`.
+#[tactic(auto, using(crate::proofs::Rising::cut_at, crate::proofs::Rising::cut_gap))]
 fn cut(pids: &[u32], after: u32) -> usize
     requires { IsRising pids.now }
     ensures { IsCut pids.now after result }
@@ -73,6 +81,7 @@ fn cut(pids: &[u32], after: u32) -> usize
 }
 
 /// The least pid above `after`, else the least. None exactly where there is none.
+#[tactic(auto, using(crate::proofs::Rising::next_cut, crate::proofs::Rising::next_first, crate::proofs::Rising::next_none))]
 pub fn next(pids: &[u32], after: u32) -> Option<u32>
     requires { IsRising pids.now }
     ensures { MatchOption result (NonePasses (λ q. has q pids.now)) (IsNext (λ q. has q pids.now) after) }

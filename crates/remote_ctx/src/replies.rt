@@ -2,7 +2,7 @@
 ghost use Rattle.std.specs.Prelude.{◌≡◌, true, [], ◌<◌, ◌≤◌, is_none, unwrap_or, vec_len, vec_capacity, IfOk, IsSome, OnOk, OnErr};
 ghost use Rattle.std.specs.Option.{option_map};
 ghost use Rattle.remote_ctx.specs.Hosted.{lookup, Changes};
-ghost use Rattle.remote_ctx.specs.Acting.{fits_context, fits_here, fits_reply, is_new_child, child_user, kept_of, resumed_as, Bears, Finishes, Gets, what_of, mail_of, kept_word};
+ghost use Rattle.remote_ctx.specs.Acting.{fits_here, fits_reply, is_new_child, child_user, kept_of, resumed_as, Bears, Finishes, Gets, what_of, mail_of, kept_word};
 
 use crate::context::KeptMove;
 use crate::hosted::Hosted;

@@ -1,7 +1,7 @@
 // What a process that is hosted sends home, what pokes it, and how it moves.
-ghost use Rattle.std.specs.Prelude.{◌≡◌, true, is_none, IsSome, IfOk, OnErr};
+ghost use Rattle.std.specs.Prelude.{◌≡◌, true, None, is_none, IsSome, IfOk, OnErr};
 ghost use Rattle.remote_ctx.specs.Hosted.{lookup, Changes, runs_at};
-ghost use Rattle.remote_ctx.specs.Acting.{asking, keeping, standing_as, waits_at, asks_at, poked_as, asked_of, Sends, Heeds, PokedOn, LeavesOr, poked_context, comes, suits};
+ghost use Rattle.remote_ctx.specs.Acting.{asking, keeping, standing_as, waits_at, asks_at, poked_as, asked_of, Sends, Heeds, PokedBy, PokedOn, LeavesOr, poked_context, comes, suits};
 ghost use Rattle.remote_ctx.specs.declared.context.Stance.TheVariants.{Running};
 
 use crate::context::{Context, Stance};
@@ -25,24 +25,24 @@ impl Hosted {
         ensures ok { IfOk result (λ acted. Sends acted pid self.old self.new) }
         ensures err { OnErr result (self.new ≡ self.old) }
     {
-        let Some(request) = self.request(alloc, pid)? else {
-            return Ok(strange(alloc));
-        };
-        let number = request.number;
-        let mail = one(alloc, HOME, Message::Call { pid, request })?;
-        let poked = self.is_poked(pid);
-        self.stand(
-            pid,
-            poked,
-            Stance::Waiting {
-                pause: false,
-                kept: None,
-            },
-        );
-        Ok(Acted {
-            what: What::Sent { pid, number },
-            mail,
-        })
+        match self.request(alloc, pid)? {
+            None => Ok(strange(alloc)),
+            Some(request) => {
+                let number = request.number;
+                let mail = one(alloc, HOME, Message::Call { pid, request })?;
+                self.turn_to(
+                    pid,
+                    Stance::Waiting {
+                        pause: false,
+                        kept: None,
+                    },
+                );
+                Ok(Acted {
+                    what: What::Sent { pid, number },
+                    mail,
+                })
+            }
+        }
     }
 
     /// A process that runs and was poked pauses, so that home takes a signal, and waits. Where memory is not found nothing changes.
@@ -72,14 +72,22 @@ impl Hosted {
     pub fn poked(&mut self, alloc: Global, pid: u32) -> Acted
         ensures { PokedOn result pid self.old self.new }
     {
-        let used = self.is_awake(pid);
-        if used {
-            self.note_poke(pid);
-        }
+        let used = self.mark(pid);
         Acted {
             what: What::Poked { pid, used },
             mail: Mail::new(alloc),
         }
+    }
+
+    /// Notes a poke, where the process runs or asks for room. Whether it does.
+    fn mark(&mut self, pid: u32) -> bool
+        ensures { PokedBy result pid self.old self.new }
+    {
+        if !self.is_awake(pid) {
+            return false;
+        }
+        self.note_poke(pid);
+        true
     }
 
     /// Notes a poke of a process that is here.
@@ -87,8 +95,9 @@ impl Hosted {
         requires { IsSome (lookup pid self.old) }
         ensures { Changes pid poked_context self.old self.new }
     {
-        if let Some(state) = self.stance(pid) {
-            self.stand(pid, true, state);
+        match self.stance(pid) {
+            None => {}
+            Some(state) => self.stand(pid, true, state),
         }
     }
 
@@ -114,8 +123,9 @@ impl Hosted {
         requires { waits_at pid self.old ≡ true }
         ensures { Changes pid (keeping to line) self.old self.new }
     {
-        if let Some(state) = self.stance(pid) {
-            self.turn_to(pid, keeping(state, to, line));
+        match self.stance(pid) {
+            None => {}
+            Some(state) => self.turn_to(pid, keeping(state, to, line)),
         }
     }
 
@@ -150,8 +160,9 @@ impl Hosted {
     }
 
     /// Whether no context of the process is here.
-    pub(crate) fn is_absent(&self, pid: u32) -> bool
-        ensures { result ≡ is_none (lookup pid self.now) }
+    pub fn is_absent(&self, pid: u32) -> bool
+        ensures is { result ≡ is_none (lookup pid self.now) }
+        ensures none { result ≡ true → lookup pid self.now ≡ None }
     {
         self.find(pid).is_none()
     }
