@@ -39,13 +39,16 @@ length-replaced xs (suc i) (Some x) = length-set xs i x
 length-changed : {A : Type 0} (change : A → A) (xs : List A) (p : ℕ) → length (changed_pid change xs p) ≡ length xs
 length-changed change xs p = length-replaced xs p (option_map change (at_pid xs p))
 
-one_if : Bool → ℕ
+abbrev pub one_if : Bool → ℕ
 one_if true = 1
 one_if false = 0
 
 length-born : (forked : Bool) (from : ℕ) (rows : List Row) → length (with_born forked from rows) ≡ length rows + one_if forked
 length-born true from rows = length_push rows (new_row from)
-length-born false from rows = omega arith
+length-born false from rows = same_and_none (length rows)
+  where
+    same_and_none : (n : ℕ) → n ≡ n + 0
+    same_and_none n = omega arith
 
 length-counted : (number : Option ℕ) (p : ℕ) (rows : List Row) → length (counted_rows number p rows) ≡ length rows
 length-counted None p rows = refl
@@ -328,3 +331,11 @@ asks_with h pid e =
 
 pub calls_with : (h : HomeState) (pid : ℕ) (r : Request) → fits_call h pid r ≡ true → MayAsk h pid × (fits_request r ≡ true)
 calls_with h pid r e = let parts = both (may_ask h pid) (fits_request r) e in (asks_with h pid parts.0, parts.1)
+
+-- home as it was seen before
+pub held_view : (h : HomeState) (k : KernelState) (rows : List Row) (settled : Bool) → record { kernel = k; rows = rows } ≡ h → IsHome k rows settled
+    → (pid : ℕ) (call : HeldCall) → held_at h.rows pid ≡ Some call → CanWait h.kernel pid call.request
+held_view h k rows settled e is = subst (λ (x : HomeState). (pid : ℕ) (call : HeldCall) → held_at x.rows pid ≡ Some call → CanWait x.kernel pid call.request) e is.held
+
+pub settled_home : (k : KernelState) (rows : List Row) (settled : Bool) → IsHome k rows settled → next_ready (record { kernel = k; rows = rows }) ≡ None → IsHome k rows true
+settled_home k rows settled h none = record { each = h.each; held = h.held; rests = λ e. none }

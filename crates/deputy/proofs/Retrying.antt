@@ -67,6 +67,11 @@ ready_served h settled pid is e = by_held (held_at h.rows pid) refl (found (goes
         let waits = is.held pid call here in
         by_first call (first_of h.kernel pid call.request) (comes h.kernel pid call.request waits.call ready)
 
+pub retried_some : (h now : HomeState) (settled : Bool) (pid : ℕ) (t : Retried) → h ≡ now → IsHome h.kernel h.rows settled → next_ready h ≡ Some pid → retry_call (held_at h.rows pid) h pid ≡ t
+    → is_some t.acted ≡ is_some (next_ready now)
+retried_some h now settled pid t same is next e =
+    ap (λ (x : Retried). is_some x.acted) (sym e) ∙ (ready_served h settled pid is next ∙ (ap is_some (sym next) ∙ ap (λ x. is_some (next_ready x)) same))
+
 -- ---- where none can go on
 
 first_fails : (test : ℕ → Bool) (x : ℕ) (xs : List ℕ) → find test (x ∷ xs) ≡ None → test x ≡ false

@@ -13,7 +13,7 @@ use std::test::Fail;
 enum Turn {
     /// A call of a process from a node: its number and its first three arguments. A write hands over two bytes.
     Call(u8, u32, u32, [u32; 3]),
-    /// A pause, with room for a frame.
+    /// A pause of a process from a node, with room for a frame.
     Pause(u8, u32),
     Retry,
     /// A process and a signal.
@@ -27,23 +27,72 @@ enum Turn {
     Closed,
 }
 
-use Turn::*;
+/// What is to happen.
+#[derive(Clone, Copy, Debug, PartialEq, Eq)]
+enum Is {
+    /// There is nothing to retry.
+    Nothing,
+    Strange,
+    /// A process, and the number of its call.
+    Held(u32, u32),
+    /// A process and its call, done with a value. No signal is taken and none is poked.
+    Did(u32, u32, i32),
+    /// A process whose call was done with a value, and the signal that is taken.
+    Took(u32, u32, i32, u8),
+    /// A process whose call was broken off, and the signal that is taken.
+    Broke(u32, u32, u8),
+    /// A pause of a process, and the signal that is taken.
+    Paused(u32, u8),
+    /// A process that dies by a signal at a pause.
+    Died(u32, u8),
+    /// A process that falls by a signal.
+    Fell(u32, u8),
+    /// A process that exits.
+    Exited(u32, u8),
+    /// A process that raises a signal by a call and dies of another one, and the two that are poked.
+    Pokes(u32, u8, u32, u32),
+    /// An order of the script, and the process that is poked.
+    Ordered(Option<u32>),
+    Unsent(Unsent),
+    /// A process that landed at a node, from another one, by so many landings, and is poked or not.
+    Told(u32, u8, u8, u32, bool),
+    /// An order to move a process to a node that goes out again, to a place.
+    Again(u32, u8, u8),
+    Refused(u32, u8, Refusal),
+    Closed,
+}
 
 /// A message with the node that it goes to.
 #[derive(Clone, Copy, Debug, PartialEq, Eq)]
 enum Post {
+    No,
     Reply(u8, u32),
     Poke(u8, u32),
-    /// With the landings that it knows.
+    /// An order to move, with the landings that it knows.
     Order(u8, u32, u32),
     Other,
 }
 
-/// A turn, what is to happen, and what is to be posted.
-type Turns<'a> = &'a [(Turn, Option<What>, &'a [Post])];
+use Post::{No, Order, Poke, Reply};
+
+/// A turn, what is to happen, and the first three messages.
+type Row = (Turn, Is, [Post; 3]);
 
 /// The line of every order.
 const LINE: u32 = 7;
+
+/// A read of two bytes of the terminal, and one of none.
+const TWO: [u32; 3] = [0, 0x1_0000, 2];
+
+const EMPTY: [u32; 3] = [0, 0x1_0000, 0];
+
+/// The first three arguments of a call that sets a handler for signal 10, and for signal 17.
+const ON_10: [u32; 3] = [10, 0x2_0000, 0x2_0004];
+
+const ON_17: [u32; 3] = [17, 0x2_0000, 0x2_0004];
+
+/// No message.
+const NONE: [Post; 3] = [No, No, No];
 
 /// A request whose write hands over two bytes.
 fn request(alloc: Global, number: u32, args: [u32; 3]) -> Result<Request, Fail> {
@@ -60,35 +109,113 @@ fn request(alloc: Global, number: u32, args: [u32; 3]) -> Result<Request, Fail> 
     })
 }
 
-/// A served call of a process that lives on: its way, number and value, the signal that is taken, and whether a further one can be.
-fn lives(
+/// How a call, a fault or a pause was served.
+#[derive(Clone, Copy)]
+struct Served {
     pid: u32,
     way: Way,
     number: Option<u32>,
     value: Option<i32>,
     taken: Option<u8>,
-    more: bool,
-) -> Option<What> {
+    end: Option<End>,
+}
+
+/// The event of it, with the two that are poked.
+fn event(served: Served, poked: Option<u32>, poked_too: Option<u32>) -> Option<What> {
     Some(What::Served {
-        pid,
-        way,
-        number,
-        value,
-        taken,
-        end: None,
-        more,
-        poked: None,
-        poked_too: None,
+        pid: served.pid,
+        way: served.way,
+        number: served.number,
+        value: served.value,
+        taken: served.taken,
+        end: served.end,
+        more: false,
+        poked,
+        poked_too,
     })
 }
 
-/// A call that was done and raised no signal.
-fn did(pid: u32, number: u32, value: i32) -> Option<What> {
-    lives(pid, Way::Did, Some(number), Some(value), None, false)
+/// A call that was done.
+fn done(pid: u32, number: u32, value: i32, taken: Option<u8>, end: Option<End>) -> Served {
+    Served {
+        pid,
+        way: Way::Did,
+        number: Some(number),
+        value: Some(value),
+        taken,
+        end,
+    }
 }
 
-/// An order of the script.
-fn ordered(unsent: Option<Unsent>, poked: Option<u32>) -> Option<What> {
+/// A fault or a pause.
+fn silent(pid: u32, way: Way, number: Option<u32>, taken: Option<u8>, end: Option<End>) -> Served {
+    Served {
+        pid,
+        way,
+        number,
+        value: None,
+        taken,
+        end,
+    }
+}
+
+/// What is to happen where something was served.
+fn served(is: Is) -> Option<What> {
+    let one = match is {
+        Is::Did(pid, number, value) => done(pid, number, value, None, None),
+        Is::Took(pid, number, value, signal) => done(pid, number, value, Some(signal), None),
+        Is::Broke(pid, number, signal) => Served {
+            way: Way::Broke,
+            ..done(pid, number, -4, Some(signal), None)
+        },
+        Is::Paused(pid, signal) => silent(pid, Way::Paused, None, Some(signal), None),
+        Is::Died(pid, signal) => silent(
+            pid,
+            Way::Paused,
+            None,
+            Some(signal),
+            Some(End::Signal(signal)),
+        ),
+        Is::Fell(pid, signal) => silent(pid, Way::Fell, Some(0), None, Some(End::Signal(signal))),
+        Is::Exited(pid, code) => done(pid, EXIT, 0, None, Some(End::Exit(code))),
+        _ => return None,
+    };
+    event(one, None, None)
+}
+
+/// What is to happen at an order of the script, or where home hears of a move.
+fn moved(is: Is) -> Option<What> {
+    let (unsent, poked) = match is {
+        Is::Ordered(poked) => (None, poked),
+        Is::Unsent(unsent) => (Some(unsent), None),
+        Is::Told(pid, at, source, hops, poked) => {
+            return Some(What::Told {
+                pid,
+                at,
+                source,
+                hops,
+                line: None,
+                poked: if poked { Some(pid) } else { None },
+            });
+        }
+        Is::Again(pid, to, place) => {
+            return Some(What::Again {
+                pid,
+                to,
+                place,
+                line: LINE,
+            });
+        }
+        Is::Refused(pid, to, why) => {
+            return Some(What::Refused {
+                pid,
+                to,
+                why,
+                line: LINE,
+            });
+        }
+        _ => return served(is),
+    };
     Some(What::Command {
         line: LINE,
         launched: None,
@@ -97,33 +224,28 @@ fn ordered(unsent: Option<Unsent>, poked: Option<u32>) -> Option<What> {
     })
 }
 
-/// What is told of a landing.
-fn told(pid: u32, at: u8, source: u8, hops: u32, poked: Option<u32>) -> Option<What> {
-    Some(What::Told {
-        pid,
-        at,
-        source,
-        hops,
-        line: None,
-        poked,
-    })
-}
-
-/// A refused move.
-fn refused(pid: u32, to: u8, why: Refusal) -> Option<What> {
-    Some(What::Refused {
-        pid,
-        to,
-        why,
-        line: LINE,
-    })
+/// What is to happen.
+fn what(is: Is) -> Option<What> {
+    match is {
+        Is::Nothing => None,
+        Is::Strange => Some(What::Strange),
+        Is::Held(pid, number) => Some(What::Held { pid, number }),
+        Is::Closed => Some(What::Closed { line: LINE }),
+        Is::Pokes(pid, signal, first, second) => event(
+            done(pid, KILL, 0, Some(signal), Some(End::Signal(signal))),
+            Some(first),
+            Some(second),
+        ),
+        _ => moved(is),
+    }
 }
 
 /// Home with so many processes.
 fn home(rt: &impl Abort, alloc: Global, count: u32) -> Result<Deputies, Fail> {
     let mut home = Deputies::new(alloc)?;
     for i in 0..count {
-        assert_eq!(rt; home.launch()?, Some(i + 1));
+        let launched = home.launch()?;
+        assert!(rt; launched == Some(i + 1));
     }
     Ok(home)
 }
@@ -131,325 +253,248 @@ fn home(rt: &impl Abort, alloc: Global, count: u32) -> Result<Deputies, Fail> {
 /// One turn.
 fn make(home: &mut Deputies, alloc: Global, turn: Turn) -> Result<Option<Acted>, Fail> {
     let acted = match turn {
-        Call(from, pid, number, args) => {
+        Turn::Call(from, pid, number, args) => {
             home.called(alloc, from, pid, request(alloc, number, args)?)?
         }
-        Pause(from, pid) => home.paused(alloc, from, pid, true)?,
-        Retry => return Ok(home.retry(alloc)?),
-        Kill(pid, signal) => home.kill(alloc, pid, signal, LINE)?,
-        Go(pid, to) => home.go(alloc, pid, to, LINE)?,
-        Landed(pid, at, source, hops) => home.landed(alloc, at, pid, source, hops, None)?,
-        Missed(pid, to, hops) => home.missed(alloc, pid, to, hops, LINE)?,
-        Closed => home.closed(alloc, LINE),
+        Turn::Pause(from, pid) => home.paused(alloc, from, pid, true)?,
+        Turn::Retry => return Ok(home.retry(alloc)?),
+        Turn::Kill(pid, signal) => home.kill(alloc, pid, signal, LINE)?,
+        Turn::Go(pid, to) => home.go(alloc, pid, to, LINE)?,
+        Turn::Landed(pid, at, source, hops) => home.landed(alloc, at, pid, source, hops, None)?,
+        Turn::Missed(pid, to, hops) => home.missed(alloc, pid, to, hops, LINE)?,
+        Turn::Closed => home.closed(alloc, LINE),
     };
     Ok(Some(acted))
 }
 
 /// A message as the tests see it.
-fn post_of(to: u8, message: &Message) -> Post {
-    match message {
-        Message::Reply { pid, .. } => Post::Reply(to, *pid),
-        Message::Poke { pid } => Post::Poke(to, *pid),
-        Message::Go { pid, hops, .. } => Post::Order(to, *pid, *hops),
-        _ => Post::Other,
+fn post_of(acted: &Acted, i: usize) -> Post {
+    match acted.mail.get(i) {
+        Some((to, Message::Reply { pid, .. })) => Reply(*to, *pid),
+        Some((to, Message::Poke { pid })) => Poke(*to, *pid),
+        Some((to, Message::Go { pid, hops, .. })) => Order(*to, *pid, *hops),
+        Some(_) => Post::Other,
+        None => No,
     }
 }
 
-/// These are posted, in their order.
-fn posts_are(rt: &impl Abort, acted: &Acted, want: &[Post], place: usize) {
-    assert_eq!(rt; acted.mail.len(), want.len(), "turn {place}");
-    for ((to, message), post) in acted.mail.as_slice().iter().zip(want) {
-        assert_eq!(rt; post_of(*to, message), *post, "turn {place}");
+/// What a turn came to.
+fn come(acted: &Option<Acted>) -> (Option<What>, [Post; 3]) {
+    match acted {
+        Some(acted) => (
+            Some(acted.what),
+            [post_of(acted, 0), post_of(acted, 1), post_of(acted, 2)],
+        ),
+        None => (None, NONE),
     }
 }
 
 /// Each turn comes to what stands beside it, and home is due exactly where a retry serves one.
-fn check(rt: &impl Abort, home: &mut Deputies, alloc: Global, turns: Turns) -> Result<(), Fail> {
-    for (place, (turn, what, posts)) in turns.iter().enumerate() {
+fn check(rt: &impl Abort, home: &mut Deputies, alloc: Global, rows: &[Row]) -> Result<(), Fail> {
+    for (place, (turn, is, posts)) in rows.iter().enumerate() {
         let due = home.due();
-        match make(home, alloc, *turn)? {
-            Some(acted) => {
-                assert_eq!(rt; Some(acted.what), *what, "turn {place}");
-                posts_are(rt, &acted, posts, place);
-                assert!(rt; *turn != Retry || due);
-            }
-            None => {
-                assert_eq!(rt; None, *what, "turn {place}");
-                assert!(rt; !due);
-            }
-        }
+        let acted = make(home, alloc, *turn)?;
+        let (happened, posted) = come(&acted);
+        assert_eq!(rt; happened, what(*is), "turn {place}");
+        assert_eq!(rt; posted, *posts, "turn {place}");
+        assert!(rt; *turn != Turn::Retry || due == acted.is_some());
     }
     Ok(())
 }
 
-const STRANGE: Option<What> = Some(What::Strange);
+/// With no process.
+const NOBODY: [Row; 2] = [
+    (Turn::Call(1, 5, WRITE, [1, 0, 2]), Is::Strange, NONE),
+    (Turn::Landed(1, 1, 0, 1), Is::Strange, NONE),
+];
 
-/// A read of two bytes of the terminal, and of nothing.
-const TWO: [u32; 3] = [0, 0x1_0000, 2];
-
-const NOTHING: [u32; 3] = [0, 0x1_0000, 0];
-
-const HANDLER: u32 = 0x2_0000;
+const MISFITS: [Row; 15] = [
+    (Turn::Call(1, 0, WRITE, [1, 0, 2]), Is::Strange, NONE),
+    (Turn::Call(1, 2, WRITE, [1, 0, 2]), Is::Strange, NONE),
+    (Turn::Call(1, 1, WRITE, [1, 0, 3]), Is::Strange, NONE),
+    (Turn::Call(1, 1, GETPID, [0, 0, 0]), Is::Strange, NONE),
+    (Turn::Call(1, 1, 20, [0, 0, 0]), Is::Strange, NONE),
+    (Turn::Call(1, 1, 0, [3, 0, 0]), Is::Strange, NONE),
+    (Turn::Call(1, 1, 0, [267, 0, 0]), Is::Strange, NONE),
+    (Turn::Pause(1, 2), Is::Strange, NONE),
+    (Turn::Landed(2, 1, 0, 1), Is::Strange, NONE),
+    (Turn::Landed(0, 1, 0, 1), Is::Strange, NONE),
+    (Turn::Missed(2, 1, 0), Is::Strange, NONE),
+    (Turn::Call(1, 1, READ, TWO), Is::Held(1, READ), NONE),
+    (Turn::Call(1, 1, WRITE, [1, 0, 2]), Is::Strange, NONE),
+    (Turn::Pause(1, 1), Is::Strange, NONE),
+    (Turn::Closed, Is::Closed, NONE),
+];
 
 /// What does not fit changes nothing and posts nothing.
 #[test]
 fn what_does_not_fit(rt: HostRuntime) -> Result<(), Fail> {
     let alloc = rt.alloc();
     let mut home = home(&rt, alloc, 0)?;
-    check(
-        &rt,
-        &mut home,
-        alloc,
-        &[(Call(1, 5, WRITE, [1, 0, 2]), STRANGE, &[])],
-    )?;
-    assert_eq!(rt; home.launch()?, Some(1));
-    let held = Some(What::Held {
-        pid: 1,
-        number: READ,
-    });
-    check(
-        &rt,
-        &mut home,
-        alloc,
-        &[
-            (Call(1, 0, WRITE, [1, 0, 2]), STRANGE, &[]),
-            (Call(1, 2, WRITE, [1, 0, 2]), STRANGE, &[]),
-            (Call(1, 1, WRITE, [1, 0, 3]), STRANGE, &[]),
-            (Call(1, 1, GETPID, [0, 0, 0]), STRANGE, &[]),
-            (Call(1, 1, 20, [0, 0, 0]), STRANGE, &[]),
-            (Call(1, 1, 0, [3, 0, 0]), STRANGE, &[]),
-            (Call(1, 1, 0, [267, 0, 0]), STRANGE, &[]),
-            (Pause(1, 2), STRANGE, &[]),
-            (Landed(2, 1, 0, 1), STRANGE, &[]),
-            (Landed(0, 1, 0, 1), STRANGE, &[]),
-            (Missed(2, 1, 0), STRANGE, &[]),
-            (Call(1, 1, READ, TWO), held, &[]),
-            (Call(1, 1, WRITE, [1, 0, 2]), STRANGE, &[]),
-            (Pause(1, 1), STRANGE, &[]),
-            (Closed, Some(What::Closed { line: LINE }), &[]),
-        ],
-    )?;
-    assert_eq!(rt;
-        (home.held(1), home.served(1), home.held(2)),
-        (Some(READ), 0, None)
-    );
-    assert_eq!(rt; home.kernel().terminal().len(), 0);
+    check(&rt, &mut home, alloc, &NOBODY)?;
+    let launched = home.launch()?;
+    assert!(rt; launched == Some(1));
+    check(&rt, &mut home, alloc, &MISFITS)?;
+    assert!(rt; home.held(1) == Some(READ) && home.served(1) == 0);
+    assert!(rt; home.kernel().terminal().is_empty());
     Ok(())
 }
+
+const WAITING: [Row; 3] = [
+    (
+        Turn::Call(1, 2, READ, EMPTY),
+        Is::Did(2, READ, 0),
+        [Reply(1, 2), No, No],
+    ),
+    (Turn::Call(1, 2, READ, TWO), Is::Held(2, READ), NONE),
+    (Turn::Retry, Is::Nothing, NONE),
+];
+
+const TYPED: [Row; 8] = [
+    (
+        Turn::Call(0, 1, READ, TWO),
+        Is::Did(1, READ, 2),
+        [Reply(0, 1), No, No],
+    ),
+    (Turn::Retry, Is::Did(2, READ, 1), [Reply(1, 2), No, No]),
+    (Turn::Retry, Is::Nothing, NONE),
+    (
+        Turn::Call(1, 2, SIGACT, ON_10),
+        Is::Did(2, SIGACT, 0),
+        [Reply(1, 2), No, No],
+    ),
+    (Turn::Call(3, 2, READ, TWO), Is::Held(2, READ), NONE),
+    (Turn::Kill(2, 10), Is::Ordered(None), NONE),
+    (Turn::Retry, Is::Broke(2, READ, 10), [Reply(3, 2), No, No]),
+    (Turn::Kill(2, 10), Is::Ordered(None), NONE),
+];
 
 /// A call that blocks waits, until it blocks no more or a signal breaks it off; then the node that sent it has the reply.
 #[test]
 fn what_waits(rt: HostRuntime) -> Result<(), Fail> {
     let alloc = rt.alloc();
     let mut home = home(&rt, alloc, 2)?;
-    let held = Some(What::Held {
-        pid: 2,
-        number: READ,
-    });
-    check(
-        &rt,
-        &mut home,
-        alloc,
-        &[
-            (
-                Call(1, 2, READ, NOTHING),
-                did(2, READ, 0),
-                &[Post::Reply(1, 2)],
-            ),
-            (Call(1, 2, READ, TWO), held, &[]),
-            (Retry, None, &[]),
-        ],
-    )?;
+    check(&rt, &mut home, alloc, &WAITING)?;
     home.feed(b"abc".as_slice())?;
-    check(
-        &rt,
-        &mut home,
-        alloc,
-        &[
-            (Call(0, 1, READ, TWO), did(1, READ, 2), &[Post::Reply(0, 1)]),
-            (Retry, did(2, READ, 1), &[Post::Reply(1, 2)]),
-            (Retry, None, &[]),
-            (
-                Call(1, 2, SIGACT, [10, HANDLER, HANDLER]),
-                did(2, SIGACT, 0),
-                &[Post::Reply(1, 2)],
-            ),
-            (Call(3, 2, READ, TWO), held, &[]),
-            (Kill(2, 10), ordered(None, None), &[]),
-            (
-                Retry,
-                lives(2, Way::Broke, Some(READ), Some(-4), Some(10), false),
-                &[Post::Reply(3, 2)],
-            ),
-            (Kill(2, 10), ordered(None, None), &[]),
-        ],
-    )?;
-    assert_eq!(rt; (home.served(2), home.held(2)), (4, None));
+    check(&rt, &mut home, alloc, &TYPED)?;
+    assert!(rt; home.served(2) == 4 && home.held(2).is_none());
     Ok(())
 }
 
+const MOVES: [Row; 18] = [
+    (Turn::Go(1, 1), Is::Ordered(None), [Order(0, 1, 0), No, No]),
+    (Turn::Landed(1, 1, 0, 1), Is::Told(1, 1, 0, 1, false), NONE),
+    (Turn::Landed(1, 2, 1, 3), Is::Told(1, 2, 1, 3, false), NONE),
+    (Turn::Landed(1, 1, 2, 2), Is::Told(1, 1, 2, 2, false), NONE),
+    (
+        Turn::Missed(1, 1, 1),
+        Is::Again(1, 1, 2),
+        [Order(2, 1, 3), No, No],
+    ),
+    (
+        Turn::Missed(1, 1, 3),
+        Is::Refused(1, 1, Refusal::Moving),
+        NONE,
+    ),
+    (Turn::Go(2, 1), Is::Unsent(Unsent::Never), NONE),
+    (Turn::Go(0, 1), Is::Unsent(Unsent::Never), NONE),
+    (
+        Turn::Call(2, 1, SIGACT, ON_10),
+        Is::Did(1, SIGACT, 0),
+        [Reply(2, 1), No, No],
+    ),
+    (
+        Turn::Kill(1, 10),
+        Is::Ordered(Some(1)),
+        [Poke(2, 1), No, No],
+    ),
+    (
+        Turn::Landed(1, 3, 2, 4),
+        Is::Told(1, 3, 2, 4, true),
+        [Poke(3, 1), No, No],
+    ),
+    (
+        Turn::Landed(1, 1, 2, 4),
+        Is::Told(1, 1, 2, 4, true),
+        [Poke(3, 1), No, No],
+    ),
+    (Turn::Pause(3, 1), Is::Paused(1, 10), [Reply(3, 1), No, No]),
+    (Turn::Kill(1, 9), Is::Ordered(Some(1)), [Poke(3, 1), No, No]),
+    (Turn::Pause(3, 1), Is::Died(1, 9), [Reply(3, 1), No, No]),
+    (
+        Turn::Missed(1, 1, 1),
+        Is::Refused(1, 1, Refusal::Ended),
+        NONE,
+    ),
+    (Turn::Go(1, 1), Is::Unsent(Unsent::Ended), NONE),
+    (Turn::Kill(1, 10), Is::Ordered(None), NONE),
+];
+
 /// The places where processes are believed to be, and the orders that miss them.
 #[test]
-fn moves(rt: HostRuntime) -> Result<(), Fail> {
+fn places(rt: HostRuntime) -> Result<(), Fail> {
     let alloc = rt.alloc();
     let mut home = home(&rt, alloc, 1)?;
-    let again = Some(What::Again {
-        pid: 1,
-        to: 1,
-        place: 2,
-        line: LINE,
-    });
-    check(
-        &rt,
-        &mut home,
-        alloc,
-        &[
-            (Go(1, 1), ordered(None, None), &[Post::Order(0, 1, 0)]),
-            (Landed(1, 1, 0, 1), told(1, 1, 0, 1, None), &[]),
-            (Landed(1, 2, 1, 3), told(1, 2, 1, 3, None), &[]),
-            (Landed(1, 1, 2, 2), told(1, 1, 2, 2, None), &[]),
-            (Missed(1, 1, 1), again, &[Post::Order(2, 1, 3)]),
-            (Missed(1, 1, 3), refused(1, 1, Refusal::Moving), &[]),
-            (Go(2, 1), ordered(Some(Unsent::Never), None), &[]),
-            (Go(0, 1), ordered(Some(Unsent::Never), None), &[]),
-            (
-                Call(2, 1, SIGACT, [10, HANDLER, HANDLER]),
-                did(1, SIGACT, 0),
-                &[Post::Reply(2, 1)],
-            ),
-            (Kill(1, 10), ordered(None, Some(1)), &[Post::Poke(2, 1)]),
-            (
-                Landed(1, 3, 2, 4),
-                told(1, 3, 2, 4, Some(1)),
-                &[Post::Poke(3, 1)],
-            ),
-            (
-                Landed(1, 1, 2, 4),
-                told(1, 1, 2, 4, Some(1)),
-                &[Post::Poke(3, 1)],
-            ),
-            (
-                Pause(3, 1),
-                lives(1, Way::Paused, None, None, Some(10), false),
-                &[Post::Reply(3, 1)],
-            ),
-            (Kill(1, 9), ordered(None, Some(1)), &[Post::Poke(3, 1)]),
-            (
-                Pause(3, 1),
-                Some(What::Served {
-                    pid: 1,
-                    way: Way::Paused,
-                    number: None,
-                    value: None,
-                    taken: Some(9),
-                    end: Some(End::Signal(9)),
-                    more: false,
-                    poked: None,
-                    poked_too: None,
-                }),
-                &[Post::Reply(3, 1)],
-            ),
-            (Missed(1, 1, 1), refused(1, 1, Refusal::Ended), &[]),
-            (Go(1, 1), ordered(Some(Unsent::Ended), None), &[]),
-            (Kill(1, 10), ordered(None, None), &[]),
-        ],
-    )?;
-    assert_eq!(rt;
-        (home.given(0), home.given(1), home.given(2), home.served(1)),
-        (false, true, false, 1)
-    );
+    check(&rt, &mut home, alloc, &MOVES)?;
+    assert!(rt; !home.given(0) && home.given(1) && !home.given(2));
     Ok(())
 }
+
+const POKES: [Row; 11] = [
+    (
+        Turn::Call(1, 1, SIGACT, ON_17),
+        Is::Did(1, SIGACT, 0),
+        [Reply(1, 1), No, No],
+    ),
+    (Turn::Landed(1, 1, 0, 1), Is::Told(1, 1, 0, 1, false), NONE),
+    (
+        Turn::Call(3, 1, FORK, [0, 0, 0]),
+        Is::Did(1, FORK, 3),
+        [Reply(3, 1), No, No],
+    ),
+    (
+        Turn::Kill(3, 15),
+        Is::Ordered(Some(3)),
+        [Poke(3, 3), No, No],
+    ),
+    (
+        Turn::Call(2, 3, KILL, [2, 9, 0]),
+        Is::Pokes(3, 15, 1, 2),
+        [Reply(2, 3), Poke(1, 1), Poke(0, 2)],
+    ),
+    (
+        Turn::Call(1, 1, FORK, [0, 0, 0]),
+        Is::Took(1, FORK, 4, 17),
+        [Reply(1, 1), No, No],
+    ),
+    (
+        Turn::Call(1, 1, SIGRETURN, [0, 0, 0]),
+        Is::Did(1, SIGRETURN, 0),
+        [Reply(1, 1), No, No],
+    ),
+    (Turn::Call(1, 1, READ, TWO), Is::Held(1, READ), NONE),
+    (
+        Turn::Call(1, 4, 0, [11, 0, 0]),
+        Is::Fell(4, 11),
+        [Reply(1, 4), No, No],
+    ),
+    (Turn::Retry, Is::Broke(1, READ, 17), [Reply(1, 1), No, No]),
+    (
+        Turn::Call(1, 1, EXIT, [259, 0, 0]),
+        Is::Exited(1, 3),
+        [Reply(1, 1), No, No],
+    ),
+];
 
 /// A fork's child is believed where its parent called; a call and a death poke one process each, the lower pid first.
 #[test]
 fn pokes(rt: HostRuntime) -> Result<(), Fail> {
     let alloc = rt.alloc();
     let mut home = home(&rt, alloc, 2)?;
-    let two = Some(What::Served {
-        pid: 3,
-        way: Way::Did,
-        number: Some(KILL),
-        value: Some(0),
-        taken: Some(15),
-        end: Some(End::Signal(15)),
-        more: false,
-        poked: Some(1),
-        poked_too: Some(2),
-    });
-    let fell = Some(What::Served {
-        pid: 4,
-        way: Way::Fell,
-        number: Some(0),
-        value: None,
-        taken: None,
-        end: Some(End::Signal(11)),
-        more: false,
-        poked: None,
-        poked_too: None,
-    });
-    check(
-        &rt,
-        &mut home,
-        alloc,
-        &[
-            (
-                Call(1, 1, SIGACT, [17, HANDLER, HANDLER]),
-                did(1, SIGACT, 0),
-                &[Post::Reply(1, 1)],
-            ),
-            (Landed(1, 1, 0, 1), told(1, 1, 0, 1, None), &[]),
-            (
-                Call(3, 1, FORK, [0, 0, 0]),
-                did(1, FORK, 3),
-                &[Post::Reply(3, 1)],
-            ),
-            (Kill(3, 15), ordered(None, Some(3)), &[Post::Poke(3, 3)]),
-            (
-                Call(2, 3, KILL, [2, 9, 0]),
-                two,
-                &[Post::Reply(2, 3), Post::Poke(1, 1), Post::Poke(0, 2)],
-            ),
-            (
-                Call(1, 1, FORK, [0, 0, 0]),
-                lives(1, Way::Did, Some(FORK), Some(4), Some(17), false),
-                &[Post::Reply(1, 1)],
-            ),
-            (
-                Call(1, 1, SIGRETURN, [0, 0, 0]),
-                did(1, SIGRETURN, 0),
-                &[Post::Reply(1, 1)],
-            ),
-            (
-                Call(1, 1, READ, TWO),
-                Some(What::Held {
-                    pid: 1,
-                    number: READ,
-                }),
-                &[],
-            ),
-            (Call(1, 4, 0, [11, 0, 0]), fell, &[Post::Reply(1, 4)]),
-            (
-                Retry,
-                lives(1, Way::Broke, Some(READ), Some(-4), Some(17), false),
-                &[Post::Reply(1, 1)],
-            ),
-            (
-                Call(1, 1, EXIT, [3, 0, 0]),
-                Some(What::Served {
-                    pid: 1,
-                    way: Way::Did,
-                    number: Some(EXIT),
-                    value: Some(0),
-                    taken: None,
-                    end: Some(End::Exit(3)),
-                    more: false,
-                    poked: None,
-                    poked_too: None,
-                }),
-                &[Post::Reply(1, 1)],
-            ),
-        ],
-    )?;
+    check(&rt, &mut home, alloc, &POKES)?;
+    to_another_thread(home);
     Ok(())
 }
+
+/// Takes what may cross threads.
+fn to_another_thread<T: Send + Drop>(_value: T) {}

@@ -5,7 +5,7 @@ ghost use Rattle.fs_memory.specs.Files.{named_files};
 ghost use Rattle.fd_table.specs.Descriptors.{look_at};
 ghost use Rattle.proc_tree.specs.Tree.{zombie_at};
 ghost use Rattle.kernel_spec.specs.Io.{open_result, close_result, seek_result, dup_result, unlink_result, pipe_result};
-ghost use Rattle.kernel_spec.specs.Processes.{kill_result, sigact_result, sigmask_result};
+ghost use Rattle.kernel_spec.specs.Processes.{heeding, kill_result, sigact_result, sigmask_result};
 ghost use Rattle.kernel_spec.specs.Kernel.{KernelState, no_process, given, end_at, is_live, has_room, answers, answers_io, answers_done, value_answer, deliverable, with_end, exited, raised_by_end, with_raised, after_taken, take_result, fed};
 ghost use Rattle.kernel_spec.specs.Calls.{call_result, read_in, write_in, wait_answer, without_zombie, read_input, read_pipe, read_result, write_file, write_terminal, write_pipe, write_result, fork_result, wait_result, sigreturn_result, answers_given};
 ghost use Rattle.home_kernel.specs.Serving.{Serves, GivesAfter, Launches, IsLive, Takes, is_poked};
@@ -580,6 +580,13 @@ impl Kernel {
         let heeds = self.processes.heeding(pid, signal).is_some();
         self.processes.raise(pid, signal);
         heeds && self.processes.deliverable(pid).is_some()
+    }
+
+    /// The process, where it is live and does not ignore the signal.
+    pub fn heeding(&self, pid: u32, signal: u8) -> Option<u32>
+        ensures { result ≡ heeding self.now.processes pid signal }
+    {
+        self.processes.heeding(pid, signal)
     }
 
     /// The lowest signal that a process can take. None exactly where it is not live or can take none.

@@ -8,3 +8,8 @@ pub mod KernelFacts
 pub mod AnswerFacts
 pub mod LiveSums
 pub mod Blocking
+pub mod BlockFacts
+pub mod LookFacts
+pub mod ChildFacts
+pub mod WaitFacts
+pub mod AboveFacts

@@ -5,3 +5,4 @@ pub mod Kernel
 pub mod Calls
 pub mod Answers
 pub mod Others
+pub mod Waiting

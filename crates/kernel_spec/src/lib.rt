@@ -3,4 +3,7 @@
 
 mod laws;
 
-pub use laws::{child_shares, pids_only_grow};
+pub use laws::{
+    answers_fit, blocks_until_it_comes, child_shares, launches_add_one, none_above, others_stay,
+    pids_only_grow, signals_count_where_heeded, what_may_come,
+};

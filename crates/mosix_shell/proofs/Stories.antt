@@ -83,21 +83,21 @@ go_keeps : (q : ℕ) (setup : List UserState) (script : List ScriptLine) (es : L
 go_keeps q setup script es m None low live k = tt
 go_keeps q setup script es m (Some u) low live k = going_keeps q setup script es m u (quantum_of q u) ((quantum_of q u).went == 0) live (quantum_is q u low) refl k
 
-serve_keeps : (q : ℕ) (setup : List UserState) (script : List ScriptLine) (es : List Event) (m : MachineState) (number : ℕ) (o : Option MachineState) → served_machine (way_for number) m ≡ o
+serve_keeps : (q : ℕ) (setup : List UserState) (script : List ScriptLine) (es : List Event) (m : MachineState) (number : ℕ) (o : Option MachineState) → served_machine (way_for number) number m ≡ o
     → Kept q setup script es (record { machine = m; phase = Waits number }) → TurnKeeps q setup script es (served_turn number m o)
 serve_keeps q setup script es m number None e k = tt
 serve_keeps q setup script es m number (Some n) e k =
     kept_by q setup script es (served_what number m n) (record { machine = m; phase = Waits number }) (record { machine = n; phase = IsServed }) k
     (told_served q setup script es m n number k.asked e k.told)
-    ((served_keeps (way_for number) m n e).0 ∙ k.single)
-    ((served_keeps (way_for number) m n e).1 ∙ k.context)
+    ((served_keeps (way_for number) number m n k.asked e).0 ∙ k.single)
+    ((served_keeps (way_for number) number m n k.asked e).1 ∙ k.context)
     tt
     (home_served es m n number (way_for number) (value_gained m n) (ended_of n 1) k.home)
 
 turn_keeps : (q : ℕ) (setup : List UserState) (script : List ScriptLine) (es : List Event) (m : MachineState) (phase : Phase) → 1 ≤ q
     → Kept q setup script es (record { machine = m; phase = phase }) → TurnKeeps q setup script es (turn_in phase q m)
 turn_keeps q setup script es m Goes low k = go_keeps q setup script es m (live_user m 1) low refl k
-turn_keeps q setup script es m (Waits number) low k = serve_keeps q setup script es m number (served_machine (way_for number) m) refl k
+turn_keeps q setup script es m (Waits number) low k = serve_keeps q setup script es m number (served_machine (way_for number) number m) refl k
 turn_keeps q setup script es m IsServed low k =
     kept_by q setup script es (Got 1 None (is_some (ended_of m 1)) None None) (record { machine = m; phase = IsServed }) (record { machine = m; phase = Goes }) k
     (told_got q setup script es m k.told) k.single k.context tt (home_got es m k.home)
@@ -175,7 +175,7 @@ served_on number m (Some n) = refl
 
 finished_in : (q : ℕ) (m : MachineState) (phase : Phase) → given m.kernel ≡ 1 → length m.users ≡ 1 → is_over (turn_in phase q m) ≡ true → IsFinished (record { machine = m; phase = phase })
 finished_in q m Goes one user h = record { goes = refl; all = all_ended m one (not_live (is_live m.kernel 1) m.users user (no_more q m (live_user m 1) h)) }
-finished_in q m (Waits number) one user h = true_false (sym h ∙ served_on number m (served_machine (way_for number) m))
+finished_in q m (Waits number) one user h = true_false (sym h ∙ served_on number m (served_machine (way_for number) number m))
 finished_in q m IsServed one user h = true_false (sym h)
 
 pub finished : (q : ℕ) (setup : List UserState) (script : List ScriptLine) (s : Story) → IsTold q setup script s → s.ended ≡ true → IsFinished s.last

@@ -13,15 +13,16 @@ use Rattle.user_spec.specs.User.{UserState}
 use Rattle.user_spec.specs.Advance.{advanced, Walk}
 use Rattle.kernel_spec.specs.Kernel.{is_live}
 use Rattle.kernel_spec.specs.Pids.{at_pid, set_pid}
-use Rattle.one_node.specs.Machine.{MachineState, live_user, ended_of, with_user, played, machine_step, and_then, steps_of}
-use Rattle.mosix_shell.specs.Schedule.{event_steps, served_step}
+use Rattle.one_node.specs.Machine.{MachineState, live_user, ended_of, with_user, played, machine_step, and_then, steps_of, done_of}
+use Rattle.mosix_shell.specs.Schedule.{setup_of, event_steps, served_step}
 use Rattle.mosix_shell.specs.History.{machine_of, AreStamped}
 use Rattle.mosix_shell.specs.ScriptLaw.{ScriptLaw, ScriptAt, command_count, commands_in}
 use Rattle.mosix_shell.specs.OnceLaw.{OnceLaw, OnceAt, OnceBetween, phase_of, phase_after, number_asked, way_for, IsWay, IsWaitingFor, IsQuantum}
 use Rattle.mosix_shell.specs.declared.phase.Phase.TheVariants.{Goes, Waits, IsServed}
+use Rattle.one_node.specs.declared.step.Setup.{Setup}
 use Rattle.one_node.specs.declared.step.Step.{Step}
 use Rattle.one_node.specs.declared.step.Step.TheVariants as step
-use Rattle.mosix_shell.specs.Turns.{Moment, served_what, served_machine, event_after}
+use Rattle.mosix_shell.specs.Turns.{Moment, is_built, served_what, served_machine, event_after}
 use Rattle.mosix_shell.proofs.Walks.{IsWalk}
 
 pub record Told (quantum : ℕ) (setup : List UserState) (script : List ScriptLine) (es : List Event) (now : Moment) : Type 0 where
@@ -42,13 +43,13 @@ no_command _ next m h = tt
 -- an event whose steps the machine makes
 pub told_more : (q : ℕ) (setup : List UserState) (script : List ScriptLine) (es : List Event) (now next : Moment) (what : What)
     → commands_in what ≡ 0
-    → played setup (event_steps script what) now.machine ≡ Some next.machine
+    → played (setup_of setup) (event_steps script what) now.machine ≡ Some next.machine
     → ((p : ℕ) → phase_after p what (cond (nat_eq 1 p) now.phase Goes) ≡ cond (nat_eq 1 p) next.phase Goes)
     → OnceBetween q (λ p. phase_of p es) now.machine next.machine what
     → Told q setup script es now
     → Told q setup script (event_after es what ∷ es) next
 told_more q setup script es now next what none step phases once t =
-    let plays : machine_of setup script (event_after es what ∷ es) ≡ Some next.machine = ap (λ o. and_then o (played setup (event_steps script what))) t.plays ∙ step in
+    let plays : machine_of setup script (event_after es what ∷ es) ≡ Some next.machine = ap (λ o. and_then o (played (setup_of setup) (event_steps script what))) t.plays ∙ step in
     record {
       plays = plays;
       phases = λ p. ap (phase_after p what) (t.phases p) ∙ phases p;
@@ -81,7 +82,7 @@ steps_made m u w live steps some =
     ∙ ap (λ o. option_map (with_user m 1) (option_and_then (advanced w.went) o)) live
     ∙ ap (option_map (with_user m 1)) steps
 
-one_step : (setup : List UserState) (s : Step) (m n : MachineState) → machine_step setup s m ≡ Some n → played setup (s ∷ []) m ≡ Some n
+one_step : (setup : Setup) (s : Step) (m n : MachineState) → machine_step setup s m ≡ Some n → played setup (s ∷ []) m ≡ Some n
 one_step setup s m n h = ap (λ o. and_then o (played setup [])) h
 
 pub told_steps : (q : ℕ) (setup : List UserState) (script : List ScriptLine) (es : List Event) (m : MachineState) (u : UserState) (w : Walk)
@@ -90,7 +91,7 @@ pub told_steps : (q : ℕ) (setup : List UserState) (script : List ScriptLine) (
     → Told q setup script (event_after es (Steps 1 w.went) ∷ es) (record { machine = with_user m 1 w.user; phase = Goes })
 told_steps q setup script es m u w live is some t =
     told_more q setup script es (record { machine = m; phase = Goes }) (record { machine = with_user m 1 w.user; phase = Goes }) (Steps 1 w.went) refl
-    (one_step setup (step.Steps 1 w.went) m (with_user m 1 w.user) (steps_made m u w live is.steps some))
+    (one_step (setup_of setup) (step.Steps 1 w.went) m (with_user m 1 w.user) (steps_made m u w live is.steps some))
     (λ p. refl)
     (t.phases 1, subst (IsQuantum q w.went) (sym (live_after m u w.user live)) (is_zero w.went some, is.most, is.pauses))
     t
@@ -108,20 +109,24 @@ told_sent q setup script es m number asked t =
 
 -- ---- a call or a fault that is served
 
-way_steps : (way : Way) (setup : List UserState) (m n : MachineState) → served_machine way m ≡ Some n → played setup (served_step way 1 ++ []) m ≡ Some n
-way_steps Did setup m n h = one_step setup (step.Do 1) m n h
-way_steps Fell setup m n h = one_step setup (step.Fall 1) m n h
-way_steps Broke setup m n h = absurd (none-some n h)
-way_steps Paused setup m n h = absurd (none-some n h)
+if_built : (b : Bool) (o : Option MachineState) (n : MachineState) → cond b o None ≡ Some n → o ≡ Some n
+if_built true o n h = h
+if_built false o n h = absurd (none-some n h)
+
+way_steps : (way : Way) (number : ℕ) (setup : Setup) (m n : MachineState) → served_machine way number m ≡ Some n → played setup (served_step way 1 ++ []) m ≡ Some n
+way_steps Did number setup m n h = one_step setup (step.Do 1) m n (if_built (is_built number) (done_of m 1 (live_user m 1)) n h)
+way_steps Fell number setup m n h = one_step setup (step.Fall 1) m n h
+way_steps Broke number setup m n h = absurd (none-some n h)
+way_steps Paused number setup m n h = absurd (none-some n h)
 
 pub told_served : (q : ℕ) (setup : List UserState) (script : List ScriptLine) (es : List Event) (m n : MachineState) (number : ℕ)
     → number_asked m 1 ≡ Some number
-    → served_machine (way_for number) m ≡ Some n
+    → served_machine (way_for number) number m ≡ Some n
     → Told q setup script es (record { machine = m; phase = Waits number })
     → Told q setup script (event_after es (served_what number m n) ∷ es) (record { machine = n; phase = IsServed })
 told_served q setup script es m n number asked served t =
     told_more q setup script es (record { machine = m; phase = Waits number }) (record { machine = n; phase = IsServed }) (served_what number m n) refl
-    (way_steps (way_for number) setup m n served)
+    (way_steps (way_for number) number (setup_of setup) m n served)
     (λ p. elim (nat_eq 1 p) as (λ b. cond b IsServed (cond b (Waits number) Goes) ≡ cond b IsServed Goes) [ true ↦ refl | false ↦ refl ]) (
       subst (λ x. IsWaitingFor x (Some number)) (sym (t.phases 1)) refl,
       record { numbered = sym asked; served = subst (IsWay (way_for number)) (sym asked) refl; valued = refl; ends = refl; untaken = refl; no_more = refl; unpoked = (refl, refl) },

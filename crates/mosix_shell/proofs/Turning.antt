@@ -1,27 +1,29 @@
 -- Turns in the code are turns by definition, and make a story.
-use Rattle.std.proofs.Common.{◌≡◌, ℕ, zero, suc, ◌+◌, ◌-◌, ◌<◌, ◌≤◌, List, [], ◌∷◌, reverse, refl, ap, ◌∙◌, sym, subst, arith, Option, Some, None, Bool, true, false, cond, ◌==◌, lit≤}
-use Rattle.std.specs.Option.{option_map}
+use Rattle.std.proofs.Common.{◌≡◌, ℕ, zero, suc, ◌+◌, ◌-◌, ◌<◌, ◌≤◌, List, [], ◌∷◌, reverse, ℤ, refl, ap, ◌∙◌, sym, subst, arith, Option, Some, None, Bool, true, false, cond, ◌==◌, lit≤}
+use Rattle.std.specs.Option.{option_map, option_and_then}
 use Rattle.std.proofs.lemmas.Option.{none-some}
 use Rattle.std.proofs.lemmas.Bool.Decides.{nat_tests}
 use Rattle.call_table.specs.declared.process.End.{End}
 use Rattle.node_event.specs.declared.event.Event.{Event}
 use Rattle.node_event.specs.declared.event.What.{What}
 use Rattle.node_event.specs.declared.event.What.TheVariants as whats
-use Rattle.node_event.specs.declared.event.Way.TheVariants.{Did, Fell}
-use Rattle.call_table.specs.declared.process.Reply3.{Reply3}
+use Rattle.node_event.specs.declared.event.Way.TheVariants as ways
 use Rattle.user_spec.specs.User.{UserState}
 use Rattle.user_spec.specs.Advance.{Walk, quantum_of, request_of, asked_number}
-use Rattle.kernel_spec.specs.Kernel.{is_live}
+use Rattle.kernel_spec.specs.Kernel.{is_live, raised_by_end}
 use Rattle.kernel_spec.specs.Pids.{at_pid, set_pid}
-use Rattle.one_node.specs.Machine.{MachineState, live_user, ended_of, with_user}
-use Rattle.one_node.specs.Going.{gone, gone_on, gone_in, GoneIn, asks_of, replied_in, fell_in}
+use Rattle.one_node.specs.Machine.{MachineState, live_user, ended_of, with_user, done_of, fault_of, with_fall, fallen, value_gained}
+use Rattle.one_node.specs.Going.{gone, gone_on, gone_in, GoneIn, asks_of}
+use Rattle.one_node.specs.Applying.{AppliedAs, raised_by_call}
+use Rattle.one_node.specs.declared.home.Applied.{Applied}
+use Rattle.one_node.specs.declared.home.Applied.TheVariants.{Did, Not}
 use Rattle.one_node.proofs.Quanta.{asks_there}
-use Rattle.one_node.proofs.Applies.{serves_one, serves_none, falls_as, none_gained}
+use Rattle.one_node.proofs.Applies.{none_gained}
 use Rattle.mosix_shell.specs.OnceLaw.{way_for}
 use Rattle.mosix_shell.specs.declared.phase.Phase.{Phase}
 use Rattle.mosix_shell.specs.declared.phase.Phase.TheVariants.{Goes, Waits, IsServed}
 use Rattle.one_node.specs.declared.going.Ran.TheVariants as ran
-use Rattle.mosix_shell.specs.Turns.{Moment, Makes, IsOver, IsUnbuilt, turn_of, go_turn, sent_turn, steps_turn, serve_turn, served_turn, event_after, Story, story, story_of, told_by, is_over, quantum_steps, later_events, first_event, first_moment}
+use Rattle.mosix_shell.specs.Turns.{Moment, Makes, IsOver, IsUnbuilt, turn_of, go_turn, sent_turn, steps_turn, is_built, served_machine, serve_turn, served_turn, event_after, Story, story, story_of, told_by, is_over, quantum_steps, later_events, first_event, first_moment}
 use Rattle.mosix_shell.specs.Running.{EndsAs, Finishes, IsRunOfStory}
 use Rattle.mosix_shell.specs.declared.run.Run.{Run}
 use Rattle.one_node.specs.declared.going.Ran.{Ran}
@@ -76,34 +78,58 @@ over_turned q m n (Some u) h = absurd (none-some (gone q u).ran (sym (ap (λ (g 
 
 -- ---- a call or a fault is served
 
-pub serve_made : (number : ℕ) (m n : MachineState) (r : Reply3) (what : What) (end : Option End) (phase : Phase) → 0 < number → replied_in m 1 ≡ record { reply = Some r; machine = n }
-    → what ≡ whats.Served 1 (way_for number) (Some number) (Some r.value) None end false None None → end ≡ ended_of n 1 → phase ≡ IsServed
+-- what is told of a step that was made
+did_made : (a : Applied) (raised : Option ℕ) (reply : Option ℤ) (o : Option MachineState) (at : Option ℕ) (m n : MachineState) → a ≡ Did raised reply → AppliedAs a o at m n → (o ≡ Some n) × (reply ≡ value_gained m n)
+did_made (Did x y) raised reply o at m n e h = let f : y ≡ reply = cc in (h.0, sym f ∙ h.2)
+did_made Not raised reply o at m n e h = cc
+
+not_made : (a : Applied) (o : Option MachineState) (at : Option ℕ) (m n : MachineState) → a ≡ Not → AppliedAs a o at m n → o ≡ None
+not_made (Did x y) o at m n e h = cc
+not_made Not o at m n e h = h
+
+built_of : (number : ℕ) (m : MachineState) (o : Option MachineState) → is_built number ≡ true → done_of m 1 (live_user m 1) ≡ o → served_machine ways.Did number m ≡ o
+built_of number m o built h = ap (λ b. cond b (done_of m 1 (live_user m 1)) None) built ∙ h
+
+pub serve_made : (number : ℕ) (m n : MachineState) (a : Applied) (raised : Option ℕ) (reply : Option ℤ) (what : What) (end : Option End) (phase : Phase) → 0 < number → is_built number ≡ true
+    → a ≡ Did raised reply → AppliedAs a (done_of m 1 (live_user m 1)) (raised_by_call m 1) m n
+    → what ≡ whats.Served 1 (way_for number) (Some number) reply None end false None None → end ≡ ended_of n 1 → phase ≡ IsServed
     → serve_turn number m ≡ Makes what (record { machine = n; phase = phase })
-serve_made zero m n r what end phase low h w e p = absurd (omega (arith, low))
-serve_made (suc k) m n r what end phase low h w e p =
-    let s = serves_one m n 1 r h in
-    ap (served_turn (suc k) m) s.made
-    ∙ ap (λ v. Makes (whats.Served 1 Did (Some (suc k)) v None (ended_of n 1) false None None) (record { machine = n; phase = IsServed })) s.gained
-    ∙ ap (λ x. Makes (whats.Served 1 Did (Some (suc k)) (Some r.value) None x false None None) (record { machine = n; phase = IsServed })) (sym e)
+serve_made zero m n a raised reply what end phase low built did h w e p = absurd (omega (arith, low))
+serve_made (suc k) m n a raised reply what end phase low built did h w e p =
+    let s = did_made a raised reply (done_of m 1 (live_user m 1)) (raised_by_call m 1) m n did h in
+    ap (served_turn (suc k) m) (built_of (suc k) m (Some n) built s.0)
+    ∙ ap (λ v. Makes (whats.Served 1 ways.Did (Some (suc k)) v None (ended_of n 1) false None None) (record { machine = n; phase = IsServed })) (sym s.1)
+    ∙ ap (λ x. Makes (whats.Served 1 ways.Did (Some (suc k)) reply None x false None None) (record { machine = n; phase = IsServed })) (sym e)
     ∙ ap (λ x. Makes x (record { machine = n; phase = IsServed })) (sym w)
     ∙ ap (λ x. Makes what (record { machine = n; phase = x })) (sym p)
 
-pub serve_unmade : (number : ℕ) (m n : MachineState) → 0 < number → replied_in m 1 ≡ record { reply = None; machine = n } → serve_turn number m ≡ IsUnbuilt
-serve_unmade zero m n low h = absurd (omega (arith, low))
-serve_unmade (suc k) m n low h = ap (served_turn (suc k) m) (serves_none m n 1 h)
+pub serve_unmade : (number : ℕ) (m n : MachineState) (a : Applied) → 0 < number → is_built number ≡ true → a ≡ Not → AppliedAs a (done_of m 1 (live_user m 1)) (raised_by_call m 1) m n → serve_turn number m ≡ IsUnbuilt
+serve_unmade zero m n a low built not h = absurd (omega (arith, low))
+serve_unmade (suc k) m n a low built not h =
+    ap (served_turn (suc k) m) (built_of (suc k) m None built (not_made a (done_of m 1 (live_user m 1)) (raised_by_call m 1) m n not h))
 
-pub fall_made : (m n : MachineState) (what : What) (end : Option End) (phase : Phase) → fell_in m 1 ≡ record { fell = true; machine = n } → n.replies ≡ m.replies
-    → what ≡ whats.Served 1 Fell (Some 0) None None end false None None → end ≡ ended_of n 1 → phase ≡ IsServed
+pub serve_unbuilt : (number : ℕ) (m : MachineState) → 0 < number → is_built number ≡ false → serve_turn number m ≡ IsUnbuilt
+serve_unbuilt zero m low other = absurd (omega (arith, low))
+serve_unbuilt (suc k) m low other = ap (λ b. served_turn (suc k) m (cond b (done_of m 1 (live_user m 1)) None)) other
+
+fall_replies : (m n : MachineState) (signal : Option ℕ) → option_map (with_fall m 1) signal ≡ Some n → n.replies ≡ m.replies
+fall_replies m n None h = absurd (none-some n h)
+fall_replies m n (Some signal) h = let e : with_fall m 1 signal ≡ n = cc in ap (λ (x : MachineState). x.replies) (sym e)
+
+pub fall_made : (m n : MachineState) (a : Applied) (raised : Option ℕ) (reply : Option ℤ) (what : What) (end : Option End) (phase : Phase)
+    → a ≡ Did raised reply → AppliedAs a (fallen m 1 (live_user m 1)) (raised_by_end m.kernel 1) m n
+    → what ≡ whats.Served 1 ways.Fell (Some 0) None None end false None None → end ≡ ended_of n 1 → phase ≡ IsServed
     → serve_turn 0 m ≡ Makes what (record { machine = n; phase = phase })
-fall_made m n what end phase h same w e p =
-    ap (served_turn 0 m) (falls_as m n 1 true h)
-    ∙ ap (λ v. Makes (whats.Served 1 Fell (Some 0) v None (ended_of n 1) false None None) (record { machine = n; phase = IsServed })) (none_gained m n same)
-    ∙ ap (λ x. Makes (whats.Served 1 Fell (Some 0) None None x false None None) (record { machine = n; phase = IsServed })) (sym e)
+fall_made m n a raised reply what end phase did h w e p =
+    let s = did_made a raised reply (fallen m 1 (live_user m 1)) (raised_by_end m.kernel 1) m n did h in
+    ap (served_turn 0 m) s.0
+    ∙ ap (λ v. Makes (whats.Served 1 ways.Fell (Some 0) v None (ended_of n 1) false None None) (record { machine = n; phase = IsServed })) (none_gained m n (fall_replies m n (option_and_then fault_of (live_user m 1)) s.0))
+    ∙ ap (λ x. Makes (whats.Served 1 ways.Fell (Some 0) None None x false None None) (record { machine = n; phase = IsServed })) (sym e)
     ∙ ap (λ x. Makes x (record { machine = n; phase = IsServed })) (sym w)
     ∙ ap (λ x. Makes what (record { machine = n; phase = x })) (sym p)
 
-pub fall_unmade : (m n : MachineState) → fell_in m 1 ≡ record { fell = false; machine = n } → serve_turn 0 m ≡ IsUnbuilt
-fall_unmade m n h = ap (served_turn 0 m) (falls_as m n 1 false h)
+pub fall_unmade : (m n : MachineState) (a : Applied) → a ≡ Not → AppliedAs a (fallen m 1 (live_user m 1)) (raised_by_end m.kernel 1) m n → serve_turn 0 m ≡ IsUnbuilt
+fall_unmade m n a not h = ap (served_turn 0 m) (not_made a (fallen m 1 (live_user m 1)) (raised_by_end m.kernel 1) m n not h)
 
 -- ---- a story, turn by turn
 

@@ -4,7 +4,7 @@ use Rattle.node_event.specs.declared.script.ScriptLine.{ScriptLine}
 use Rattle.fs_memory.specs.Files.{named_files}
 use Rattle.user_spec.specs.User.{UserState}
 use Rattle.one_node.specs.Machine.{MachineState, play, statuses, HaveEnded}
-use Rattle.mosix_shell.specs.Schedule.{schedule}
+use Rattle.mosix_shell.specs.Schedule.{setup_of, schedule}
 use Rattle.mosix_shell.specs.History.{AreStamped}
 use Rattle.mosix_shell.specs.ScriptLaw.{ScriptLaw, command_count}
 use Rattle.mosix_shell.specs.OnceLaw.{OnceLaw, AreGivenBack}
@@ -15,7 +15,7 @@ use Rattle.mosix_shell.specs.declared.run.Last.TheVariants as last
 -- the schedule of the events leads to a state, and the run tells that state's statuses, terminal, files and replies
 pub record Replays (setup : List UserState) (script : List ScriptLine) (run : Run) : Type 0 where
   pub m : MachineState
-  pub plays : play setup (schedule script run.events) ≡ Some m
+  pub plays : play (setup_of setup) (schedule script run.events) ≡ Some m
   pub statuses_are : run.statuses ≡ statuses m
   pub terminal_is : run.terminal ≡ m.kernel.terminal
   pub files_are : run.files ≡ named_files m.kernel.io.files

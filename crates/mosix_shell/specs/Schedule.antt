@@ -8,10 +8,16 @@ use Rattle.node_event.specs.declared.event.Way.TheVariants.{Did, Broke, Fell, Pa
 use Rattle.node_event.specs.declared.script.Order.{Order}
 use Rattle.node_event.specs.declared.script.Order.TheVariants.{Run}
 use Rattle.node_event.specs.declared.script.ScriptLine.{ScriptLine}
+use Rattle.user_spec.specs.User.{UserState}
+use Rattle.one_node.specs.declared.step.Setup.{Setup}
 use Rattle.one_node.specs.declared.step.Step.{Step}
 use Rattle.one_node.specs.declared.step.Step.TheVariants as step
 
 -- ---- a script
+
+-- what a script starts from whose lines type nothing
+abbrev pub setup_of : List UserState → Setup
+setup_of users = record { users = users; feeds = [] }
 
 abbrev pub is_run : Order → Bool
 is_run (Run words) = true

@@ -1,5 +1,7 @@
 -- The turns of home with one process: what each event is, and the whole run as a function of the process.
 use Rattle.std.specs.Prelude.{ℕ, zero, suc, ◌+◌, ◌==◌, if◌then◌else◌, List, [], ◌∷◌, length, Option, Some, None, Bool, true, false, is_some}
+use Rattle.std.specs.List.{list_any}
+use Rattle.call_table.specs.declared.call.TheConstants.{EXIT, OPEN, CLOSE, READ, WRITE, LSEEK, DUP, UNLINK, YIELD}
 use Rattle.node_event.specs.declared.event.Event.{Event}
 use Rattle.node_event.specs.declared.event.What.{What}
 use Rattle.node_event.specs.declared.event.What.TheVariants.{Command, Steps, Sent, Served, Got}
@@ -45,11 +47,18 @@ go_turn quantum m (Some u) = going_turn m u (quantum_of quantum u)
 
 -- ---- its call or fault waits: it is served
 
-abbrev pub served_machine : Way → MachineState → Option MachineState
-served_machine Fell m = fallen m 1 (live_user m 1)
-served_machine Did m = done_of m 1 (live_user m 1)
-served_machine Broke m = None
-served_machine Paused m = None
+-- the calls that are served: exit, open, close, read, write, lseek, dup, unlink, yield
+abbrev pub built_calls : List ℕ
+built_calls = EXIT ∷ OPEN ∷ CLOSE ∷ READ ∷ WRITE ∷ LSEEK ∷ DUP ∷ UNLINK ∷ YIELD ∷ []
+
+abbrev pub is_built : ℕ → Bool
+is_built number = list_any (λ n. n == number) built_calls
+
+abbrev pub served_machine : Way → ℕ → MachineState → Option MachineState
+served_machine Fell number m = fallen m 1 (live_user m 1)
+served_machine Did number m = if is_built number then done_of m 1 (live_user m 1) else None
+served_machine Broke number m = None
+served_machine Paused number m = None
 
 abbrev pub served_what : ℕ → MachineState → MachineState → What
 served_what number old new = Served 1 (way_for number) (Some number) (value_gained old new) None (ended_of new 1) false None None
@@ -59,7 +68,7 @@ served_turn number old None = IsUnbuilt
 served_turn number old (Some new) = Makes (served_what number old new) (record { machine = new; phase = IsServed })
 
 abbrev pub serve_turn : ℕ → MachineState → Turned
-serve_turn number m = served_turn number m (served_machine (way_for number) m)
+serve_turn number m = served_turn number m (served_machine (way_for number) number m)
 
 -- ---- the answer is given back
 

@@ -2,16 +2,17 @@
 ghost use Rattle.std.specs.Prelude.{◌≡◌, ◌<◌, ◌≤◌, ◌+◌, ◌++◌, ◌∷◌, [], Some, None, IfOk, OnOk, OnErr, IfSome, length, ◌^◌, true, false, reverse};
 ghost use Rattle.user_spec.specs.User.{UserState};
 ghost use Rattle.mosix_shell.specs.OnceLaw.{way_for};
-ghost use Rattle.one_node.specs.Machine.{live_user, value_gained};
-ghost use Rattle.mosix_shell.specs.Turns.{Moment, quantum_steps, event_after, first_event, first_moment, turn_of, go_turn, serve_turn, got_turn, story, later_events};
+ghost use Rattle.one_node.specs.Machine.{live_user};
+ghost use Rattle.mosix_shell.specs.Turns.{Moment, quantum_steps, is_built, event_after, first_event, first_moment, turn_of, go_turn, serve_turn, got_turn, story, later_events};
 ghost use Rattle.mosix_shell.specs.Running.{MakesTurn, EndsAs, Finishes, RunsTo, moment};
 
 use crate::phase::Phase;
-use call_table::{Bytes, End, ListOf, NamedFiles, NoMemory, Replies, Reply3, Statuses};
+use call_table::call::{CLOSE, DUP, EXIT, LSEEK, OPEN, READ, UNLINK, WRITE, YIELD};
+use call_table::{Bytes, End, NamedFiles, NoMemory, Replies, Statuses};
 use node_event::{Event, Events, Way, What};
-use one_node::Step;
 use one_node::going::Ran;
-use one_node::home::{Applied, Feeds, Home, Setup};
+use one_node::home::{Applied, Home};
+use one_node::{Feeds, Setup, Step};
 use std::alloc::Global;
 use user_ctx::{User, Users};
 
@@ -55,15 +56,15 @@ enum Turn {
 }
 
 /// The event of a call that was served.
-fn served(number: u32, reply: &Reply3, end: Option<End>) -> What
+fn served(number: u32, value: Option<i32>, end: Option<End>) -> What
     requires { 0 < number }
-    ensures { result ≡ What.Served 1 (way_for number) (Some number) (Some reply.now.value) None end false None None }
+    ensures { result ≡ What.Served 1 (way_for number) (Some number) value None end false None None }
 {
     What::Served {
         pid: FIRST,
         way: Way::Did,
         number: Some(number),
-        value: Some(reply.value),
+        value,
         taken: None,
         end,
         more: false,
@@ -90,11 +91,11 @@ fn fell(end: Option<End>) -> What
 }
 
 /// The process goes: a quantum of steps, or it sends its call or fault.
-fn go(alloc: Global, home: &mut Home, phase: &mut Phase) -> Result<Turn, NoMemory>
+fn go(home: &mut Home, phase: &mut Phase) -> Result<Turn, NoMemory>
     requires { phase.old ≡ Phase.Goes }
     ensures { IfOk result (λ turn. MakesTurn turn (go_turn quantum_steps home.old (live_user home.old 1)) (moment home.old phase.old) (moment home.new phase.new)) }
 {
-    match home.go(alloc, FIRST, QUANTUM)? {
+    match home.go(FIRST, QUANTUM)? {
         None => Ok(Turn::Over),
         Some(Ran::Steps(k)) => Ok(Turn::Made(What::Steps { pid: FIRST, k })),
         Some(Ran::Asks(number)) => {
@@ -108,26 +109,40 @@ fn go(alloc: Global, home: &mut Home, phase: &mut Phase) -> Result<Turn, NoMemor
 fn fall(home: &mut Home, phase: &mut Phase) -> Turn
     ensures { MakesTurn result (serve_turn 0 home.old) (moment home.old phase.old) (moment home.new phase.new) }
 {
-    let went = home.fall(FIRST);
-    if !went {
-        return Turn::Unbuilt;
+    match home.fall(FIRST) {
+        Applied::Not => Turn::Unbuilt,
+        Applied::Did { .. } => {
+            *phase = Phase::IsServed;
+            Turn::Made(fell(home.ended(FIRST)))
+        }
     }
-    *phase = Phase::IsServed;
-    Turn::Made(fell(home.ended(FIRST)))
 }
 
-/// A call is served, where it is built.
+/// The numbers of the calls that are served.
+const BUILT: [u32; 9] = [EXIT, OPEN, CLOSE, READ, WRITE, LSEEK, DUP, UNLINK, YIELD];
+
+/// Whether a call is served.
+fn is_built(number: u32) -> bool
+    ensures { result ≡ is_built number }
+{
+    BUILT.iter().any(|built| *built == number)
+}
+
+/// A call is served, where it is built and does not block.
 fn serve(alloc: Global, home: &mut Home, phase: &mut Phase, number: u32) -> Result<Turn, NoMemory>
     requires { 0 < number }
     ensures { IfOk result (λ turn. MakesTurn turn (serve_turn number home.old) (moment home.old phase.old) (moment home.new phase.new)) }
 {
+    if !is_built(number) {
+        return Ok(Turn::Unbuilt);
+    }
     match home.serve(alloc, FIRST)? {
-        Some(reply) => {
+        Applied::Did { reply, .. } => {
             *phase = Phase::IsServed;
-            let what = served(number, &reply, home.ended(FIRST));
+            let what = served(number, reply, home.ended(FIRST));
             Ok(Turn::Made(what))
         }
-        None => Ok(Turn::Unbuilt),
+        Applied::Not => Ok(Turn::Unbuilt),
     }
 }
 
@@ -150,7 +165,7 @@ fn next_turn(alloc: Global, home: &mut Home, phase: &mut Phase) -> Result<Turn, 
     ensures { IfOk result (λ turn. MakesTurn turn (turn_of quantum_steps (moment home.old phase.old)) (moment home.old phase.old) (moment home.new phase.new)) }
 {
     match *phase {
-        Phase::Goes => go(alloc, home, phase),
+        Phase::Goes => go(home, phase),
         Phase::Waits(0) => Ok(fall(home, phase)),
         Phase::Waits(number) => serve(alloc, home, phase, number),
         Phase::IsServed => Ok(got(home, phase)),

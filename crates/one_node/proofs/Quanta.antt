@@ -61,7 +61,7 @@ still (suc q) u h = grow_still (grows u) u (walk_on (advance u) u (walked q)) (o
 pub stays_there : (q : ℕ) (u v : UserState) → walked q u ≡ record { went = 0; user = v } → v ≡ u
 stays_there q u v h = ap (λ (w : Walk). w.user) (sym h) ∙ still q u (ap (λ (w : Walk). w.went) h)
 
-asked_call : (u : UserState) → advance u ≡ AtCall → asked_number (request_of u) ≡ Some (number_of u)
+pub asked_call : (u : UserState) → advance u ≡ AtCall → asked_number (request_of u) ≡ Some (number_of u)
 asked_call u h = ap (λ w. asked_number (asked_at w u)) h
 
 pub quantum_stops : (q : ℕ) (u v : UserState) → walked q u ≡ record { went = 0; user = v } → ((x : UserState) → advance v ≢ Done x) → (quantum_of q u).went ≡ 0

@@ -1,16 +1,17 @@
 // Calls on the parts that make up the system.
-ghost use Rattle.std.specs.Prelude.{Some, IsSome, IsTrue, ◌≡◌, ◌<◌, ◌≤◌, true, IfOk, slice_get, slice_set, vec_len};
+ghost use Rattle.std.specs.Prelude.{◌≡◌, ◌<◌, ◌≤◌, ◌++◌, Some, IsSome, IsTrue, IfOk, true, slice_get, slice_set, vec_len, vec_capacity, ◌+◌, length};
 ghost use Rattle.std.specs.Option.{option_map, option_and_then};
-ghost use Rattle.user_spec.specs.Advance.{advanced, request_of, asked_number};
-ghost use Rattle.kernel_spec.specs.Kernel.{given, is_live, with_end};
-ghost use Rattle.kernel_spec.specs.Calls.{call_result};
+ghost use Rattle.user_spec.specs.Request.{number_of, returned};
+ghost use Rattle.user_spec.specs.Advance.{advance, AtCall, advanced};
+ghost use Rattle.kernel_spec.specs.Kernel.{given, is_live};
+ghost use Rattle.kernel_spec.specs.Calls.{children_of};
 ghost use Rattle.home_kernel.specs.Serving.{IsLive};
-ghost use Rattle.one_node.specs.Machine.{Moves, is_built, answered_of, built_result};
-ghost use Rattle.one_node.specs.Going.{AnswersBy, gone, gone_at, replied, replied_at, faulted, faulted_at};
+ghost use Rattle.one_node.specs.Machine.{Moves, asked_of, fault_of, has_room_at, user_taking};
+ghost use Rattle.one_node.specs.Going.{gone, gone_at, copied_for, HasChild, child_in, IsEntry};
 
-use call_table::call::{CLOSE, DUP, EXIT, LSEEK, OPEN, READ, UNLINK, WRITE, YIELD};
-use call_table::{Answer, End, NoMemory, Reply3, Request};
-use home_kernel::{Kernel, Served};
+use call_table::call::FORK;
+use call_table::{Answer, Kind, NoMemory, Request, Taken};
+use home_kernel::Kernel;
 use std::alloc::Global;
 use user_ctx::{Stop, User};
 
@@ -23,17 +24,8 @@ pub enum Ran {
     Asks(u32),
 }
 
-/// The number of what a process asks.
-fn asked(alloc: Global, user: &User) -> Result<u32, NoMemory>
-    requires { IsSome (request_of user.now) }
-    ensures { IfOk result (λ n. asked_number (request_of user.now) ≡ Some n) }
-{
-    let request = user.request(alloc)?;
-    Ok(request.number)
-}
-
 /// At most a quantum of steps, or what the process asks.
-pub fn go(alloc: Global, user: &mut User, quantum: u32) -> Result<Ran, NoMemory>
+pub fn go(user: &mut User, quantum: u32) -> Result<Ran, NoMemory>
     requires { 1 ≤ quantum }
     ensures { IfOk result (λ ran. gone quantum user.old ≡ record { ran = ran; user = user.new }) }
 {
@@ -48,20 +40,20 @@ pub fn go(alloc: Global, user: &mut User, quantum: u32) -> Result<Ran, NoMemory>
             let (more, _) = user.run(quantum - 1);
             Ok(Ran::Steps(more + 1))
         }
-        Stop::AtCall => Ok(Ran::Asks(asked(alloc, user)?)),
+        Stop::AtCall => Ok(Ran::Asks(user.number())),
         Stop::Fault(_) => Ok(Ran::Asks(0)),
     }
 }
 
 /// The same for the process at an index.
-pub fn go_at(alloc: Global, users: &mut Vec<User>, i: usize, quantum: u32) -> Result<Ran, NoMemory>
+pub fn go_at(users: &mut Vec<User>, i: usize, quantum: u32) -> Result<Ran, NoMemory>
     requires within { i < vec_len users.old }
     requires some { 1 ≤ quantum }
     ensures ok { IfOk result (λ ran. gone_at users.old.items i (option_map (gone quantum) (slice_get users.old.items i)) ≡ Some (record { ran = ran; users = users.new.items })) }
     ensures len { vec_len users.new ≡ vec_len users.old }
 {
     let user = &mut users[i];
-    let ran = go(alloc, user, quantum)?;
+    let ran = go(user, quantum)?;
     Ok(ran)
 }
 
@@ -97,111 +89,96 @@ pub fn steps_at(users: &mut Vec<User>, i: usize, k: u32) -> Result<bool, NoMemor
     Ok(went)
 }
 
-/// The numbers of the calls that are built.
-const BUILT: [u32; 9] = [EXIT, OPEN, CLOSE, READ, WRITE, LSEEK, DUP, UNLINK, YIELD];
-
-/// Whether a call is built.
-pub fn is_built(number: u32) -> bool
-    ensures { result ≡ is_built number }
+/// What the process at an index asks at a forwarded call. None exactly where it is at none.
+pub fn asked_at(alloc: Global, users: &[User], i: usize) -> Result<Option<Request>, NoMemory>
+    requires { i < length users.now }
+    ensures { IfOk result (λ asked. option_and_then asked_of (slice_get users.now i) ≡ asked) }
 {
-    BUILT.iter().any(|built| *built == number)
+    let user = &users[i];
+    let asked = user.call(alloc)?;
+    Ok(asked)
 }
 
-/// The answer of a call, None where it blocks. Then, and at want of memory, nothing changes.
-fn call(
-    alloc: Global,
-    kernel: &mut Kernel,
-    pid: u32,
-    request: &Request,
-) -> Result<Option<Answer>, NoMemory>
-    requires { IsLive kernel.old pid }
-    ensures ok { IfOk result (λ answer. AnswersBy answer (option_map answered_of (call_result kernel.old pid request.now)) kernel.old kernel.new) }
-    ensures given { is_built request.now.number ≡ true → given kernel.new ≡ given kernel.old }
+/// A copy of the process at an index for its child, where its call is a fork.
+pub fn copied_at(users: &[User], i: usize, number: u32) -> Result<Option<User>, NoMemory>
+    requires { i < length users.now }
+    ensures { IfOk result (λ child. option_and_then (copied_for number) (slice_get users.now i) ≡ child) }
 {
-    match kernel.serve(alloc, pid, request)? {
-        Served::Done { answer, .. } => Ok(Some(answer)),
-        Served::Blocks => Ok(None),
-    }
-}
-
-/// The answer of a call, None where it blocks or is not built. Then, and at want of memory, nothing changes.
-fn answer_of(
-    alloc: Global,
-    kernel: &mut Kernel,
-    pid: u32,
-    request: &Request,
-) -> Result<Option<Answer>, NoMemory>
-    requires { IsLive kernel.old pid }
-    ensures ok { IfOk result (λ answer. AnswersBy answer (built_result kernel.old pid request.now) kernel.old kernel.new) }
-    ensures given { given kernel.new ≡ given kernel.old }
-{
-    if !is_built(request.number) {
+    if number != FORK {
         return Ok(None);
     }
-    let answer = call(alloc, kernel, pid, request)?;
-    Ok(answer)
+    let user = &users[i];
+    let child = user.fork_copy(0)?;
+    Ok(Some(child))
 }
 
-/// What is kept of a served call.
-fn reply_of(pid: u32, number: u32, answer: &Answer) -> Reply3
-    ensures { result ≡ record { pid = pid; number = number; value = answer.now.value } }
+/// The return of the call of the process at an index.
+pub fn give_at(users: &mut Vec<User>, i: usize, answer: &Answer)
+    requires { i < vec_len users.old }
+    ensures is { option_map (λ u. slice_set users.old.items i (returned u answer.now)) (slice_get users.old.items i) ≡ Some users.new.items }
+    ensures len { vec_len users.new ≡ vec_len users.old }
+    ensures capacity { vec_capacity users.new ≡ vec_capacity users.old }
 {
-    Reply3 {
-        pid,
-        number,
-        value: answer.value,
+    let user = &mut users[i];
+    user.give(answer);
+}
+
+/// The child of a fork with its pid, as the last process.
+pub fn push_child(users: &mut Vec<User>, child: Option<User>, kind: Kind, pid: u32)
+    requires room { vec_len users.old < vec_capacity users.old }
+    ensures is { users.new.items ≡ users.old.items ++ child_in kind child pid }
+    ensures len { HasChild kind child → vec_len users.new ≡ vec_len users.old + children_of kind }
+{
+    if kind != Kind::Fork {
+        return;
+    }
+    if let Some(mut child) = child {
+        child.set_pid(pid);
+        users.push_reserved(child);
     }
 }
 
-/// The forwarded call of a live process, where it is at one that is built. A process that is at none makes its next step.
-fn serve(
-    alloc: Global,
-    kernel: &mut Kernel,
-    user: &mut User,
-    pid: u32,
-) -> Result<Option<Reply3>, NoMemory>
-    requires { IsLive kernel.old pid }
-    ensures ok { IfOk result (λ reply. replied kernel.old pid user.old ≡ record { reply = reply; kernel = kernel.new; user = user.new }) }
-    ensures given { given kernel.new ≡ given kernel.old }
+/// Whether the process at an index has room for the frame of a signal.
+pub fn room_at(users: &[User], i: usize) -> bool
+    requires { i < length users.now }
+    ensures { option_map has_room_at (slice_get users.now i) ≡ Some result }
 {
-    match user.step() {
-        Stop::AtCall => {}
-        Stop::Went => return Ok(None),
-        Stop::Grows => return Ok(None),
-        Stop::Fault(_) => return Ok(None),
-    }
-    let request = user.request(alloc)?;
-    match answer_of(alloc, kernel, pid, &request)? {
-        Some(answer) => {
-            user.give(&answer);
-            Ok(Some(reply_of(pid, request.number, &answer)))
+    users[i].frame_room()
+}
+
+/// A process enters its handler, where it does not die by the signal that it took.
+fn enter(user: &mut User, taken: Taken)
+    requires { IsEntry taken → has_room_at user.old ≡ true }
+    ensures { user.new ≡ user_taking user.old taken }
+{
+    match taken {
+        Taken::Dies(_) => {}
+        Taken::Enters {
+            signal,
+            handler,
+            restorer,
+            mask,
+        } => {
+            user.push_frame(signal, handler, restorer, mask);
         }
-        None => Ok(None),
     }
 }
 
 /// The same for the process at an index.
-pub fn serve_at(
-    alloc: Global,
-    kernel: &mut Kernel,
-    users: &mut Vec<User>,
-    i: usize,
-    pid: u32,
-) -> Result<Option<Reply3>, NoMemory>
-    requires live { IsLive kernel.old pid }
+pub fn enter_at(users: &mut Vec<User>, i: usize, taken: Taken)
     requires within { i < vec_len users.old }
-    ensures ok { IfOk result (λ r. replied_at users.old.items i (option_map (replied kernel.old pid) (slice_get users.old.items i)) ≡ Some (record { reply = r; kernel = kernel.new; users = users.new.items })) }
-    ensures given { given kernel.new ≡ given kernel.old }
+    requires room { IsEntry taken → option_map has_room_at (slice_get users.old.items i) ≡ Some true }
+    ensures is { option_map (λ u. slice_set users.old.items i (user_taking u taken)) (slice_get users.old.items i) ≡ Some users.new.items }
     ensures len { vec_len users.new ≡ vec_len users.old }
 {
     let user = &mut users[i];
-    let reply = serve(alloc, kernel, user, pid)?;
-    Ok(reply)
+    enter(user, taken);
 }
 
 /// The signal of the fault that a process is at. A process that is at none makes its next step.
 fn fault(user: &mut User) -> Option<u8>
-    ensures { faulted user.old ≡ record { signal = result; user = user.new } }
+    ensures is { result ≡ fault_of user.old }
+    ensures stays { IsSome result → user.new ≡ user.old }
 {
     match user.step() {
         Stop::Fault(signal) => Some(signal),
@@ -214,21 +191,13 @@ fn fault(user: &mut User) -> Option<u8>
 /// The same for the process at an index.
 pub fn fault_at(users: &mut Vec<User>, i: usize) -> Option<u8>
     requires { i < vec_len users.old }
-    ensures is { faulted_at users.old.items i (option_map faulted (slice_get users.old.items i)) ≡ Some (record { signal = result; users = users.new.items }) }
+    ensures is { option_and_then fault_of (slice_get users.old.items i) ≡ result }
+    ensures stays { IsSome result → users.new.items ≡ users.old.items }
     ensures len { vec_len users.new ≡ vec_len users.old }
 {
     let user = &mut users[i];
     let signal = fault(user);
     signal
-}
-
-/// Ends a live process by the signal of its fault.
-pub fn end_by(kernel: &mut Kernel, pid: u32, signal: u8)
-    requires { IsLive kernel.old pid }
-    ensures is { kernel.new ≡ with_end kernel.old pid (End.Signal signal) }
-    ensures given { given kernel.new ≡ given kernel.old }
-{
-    let _raised = kernel.fall(pid, signal);
 }
 
 /// Whether a process was given and has not ended.

@@ -7,4 +7,4 @@ pub mod play;
 mod report;
 pub mod step;
 
-pub use crate::step::Step;
+pub use crate::step::{Feeds, Setup, Step};

@@ -3,8 +3,8 @@ ghost use Rattle.std.specs.Prelude.{◌≡◌, ◌<◌, Some, None, IfOk, IfErr,
 ghost use Rattle.one_node.specs.Machine.{play, statuses};
 ghost use Rattle.one_node.specs.Playing.{IsOutcomeOf, Fails};
 
-use crate::home::{Applied, Home, Outcome, Setup};
-use crate::step::Step;
+use crate::home::{Applied, Home, Outcome};
+use crate::step::{Setup, Step};
 use std::alloc::Global;
 use thiserror::Error;
 
@@ -27,8 +27,8 @@ fn number_of(at: usize) -> u32
 
 /// The system after these steps from the empty state, as it is told at the end.
 pub fn play(alloc: Global, setup: &Setup, steps: &[Step]) -> Result<Outcome, PlayFault>
-    ensures ok { IfOk result (λ o. IsOutcomeOf o (play setup.now.users steps.now)) }
-    ensures err { IfErr result (λ fault. Fails fault setup.now.users steps.now) }
+    ensures ok { IfOk result (λ o. IsOutcomeOf o (play setup.now steps.now)) }
+    ensures err { IfErr result (λ fault. Fails fault setup.now steps.now) }
 {
     let mut home = Home::new(alloc);
     for (at, step) in steps.iter().enumerate() {

@@ -1,31 +1,19 @@
-// What is told of the processes at the end.
-ghost use Rattle.std.specs.Prelude.{◌≡◌, IfOk};
-ghost use Rattle.kernel_spec.specs.Kernel.{given};
-ghost use Rattle.one_node.specs.Machine.{state_of, statuses_from};
+// What is told of a process at the end.
+ghost use Rattle.std.specs.Prelude.{◌≡◌};
+ghost use Rattle.one_node.specs.Machine.{state_of};
 
-use call_table::{End, NoMemory, PidState, Statuses};
-use home_kernel::Kernel;
-use std::alloc::Global;
+use call_table::{End, PidState};
 
-fn state_of(end: Option<End>) -> PidState
-    ensures { result ≡ state_of end }
+/// The state of a process, from how it ended and the call at which it is blocked.
+pub fn state_of(end: Option<End>, call: Option<u32>) -> PidState
+    ensures { result ≡ state_of end call }
 {
     match end {
-        None => PidState::Live,
         Some(End::Exit(code)) => PidState::Exit(code),
         Some(End::Signal(signal)) => PidState::Signal(signal),
+        None => match call {
+            Some(number) => PidState::Blocked(number),
+            None => PidState::Live,
+        },
     }
-}
-
-/// The state of each process, from pid 1 on.
-pub fn statuses(alloc: Global, kernel: &Kernel) -> Result<Statuses, NoMemory>
-    ensures { IfOk result (λ statuses. statuses ≡ statuses_from kernel.now 1 (given kernel.now)) }
-{
-    let mut statuses = Statuses::new(alloc);
-    let given = kernel.given();
-    for i in 0..given {
-        let pid = i + 1;
-        statuses.push((pid, state_of(kernel.ended(pid))))?;
-    }
-    Ok(statuses)
 }

@@ -1,5 +1,5 @@
 -- What a process asks.
-use Rattle.std.proofs.Common.{◌≡◌, ℕ, ◌<◌, ◌≤◌, List, ◌∷◌, refl, ap, ◌∙◌, sym, subst, Option, Some, None, Result, Ok, Err, Bool, true, false, cond}
+use Rattle.std.proofs.Common.{◌≡◌, ℕ, ◌<◌, ◌≤◌, List, ◌∷◌, refl, ap, ◌∙◌, sym, subst, Option, Some, None, Result, Ok, Err, Bool, true, false, not, ◌&&◌, cond}
 use Rattle.std.specs.Prelude.{IsSome}
 use Rattle.call_table.specs.declared.limit.TheConstants.{STEPS}
 use Rattle.call_table.specs.declared.signal.TheConstants.{SIGSEGV, SIGXCPU}
@@ -10,7 +10,7 @@ use Rattle.user_spec.specs.Instruction.{Core, next_effect, applied, with_loaded,
 use Rattle.user_spec.specs.declared.effect.Effect.{Effect}
 use Rattle.user_spec.specs.declared.effect.Effect.TheVariants.{Sets, Loads, Stores, Calls, Raises}
 use Rattle.user_spec.specs.Advance.{Went, Done, AtCall, Faults, advance, core_of, went_of, counted, asked_at, request_of}
-use Rattle.user_ctx.specs.Calling.{signal_of, AsksBy}
+use Rattle.user_ctx.specs.Calling.{signal_of, AsksBy, is_calling, is_at}
 use Rattle.user_ctx.proofs.Walks.{advance_is, advance_full}
 
 pub asks_full : (u : UserState) → STEPS ≤ u.count → advance u ≡ Faults SIGXCPU
@@ -71,3 +71,41 @@ call_is u number args bytes room n a b r =
     ∙ ap (λ x. let q : Request = record { number = number_of u; args = x; bytes = bytes; room = room } in q) a
     ∙ ap (λ x. let q : Request = record { number = number_of u; args = asked_args u; bytes = x; room = room } in q) b
     ∙ ap (λ x. let q : Request = record { number = number_of u; args = asked_args u; bytes = handed_bytes u; room = x } in q) r
+
+-- ---- whether it is at a forwarded call
+
+at_loaded : (u : UserState) (rd : ℕ) (r : Result ℕ ℕ) (c : Core) → is_at (went_of u (with_loaded rd r c)) ≡ false
+at_loaded u rd (Ok value) c = refl
+at_loaded u rd (Err addr) c = refl
+
+at_stored : (u : UserState) (r : Result _ ℕ) (c : Core) → is_at (went_of u (with_stored r c)) ≡ false
+at_stored u (Ok pages) c = refl
+at_stored u (Err addr) c = refl
+
+at_if : (u : UserState) (b : Bool) → is_at (cond b (Done (counted (local_call u))) AtCall) ≡ not b
+at_if u true = refl
+at_if u false = refl
+
+at_effect : (e : Effect) (u : UserState) (c : Core) → is_at (went_of u (applied e c)) ≡ (is_calling e && not (is_local_call u))
+at_effect (Sets rd value next) u c = refl
+at_effect (Loads rd addr form) u c = at_loaded u rd (load_as form c.pages addr) c
+at_effect (Stores addr value width) u c = at_stored u (store_as width c.pages addr value) c
+at_effect Calls u c = at_if u (is_local_call u)
+at_effect (Raises signal) u c = refl
+
+at_as : (u : UserState) (e : Effect) → u.count < STEPS → next_effect u.pc (0 ∷ u.registers) u.pages ≡ e → is_at (advance u) ≡ (is_calling e && not (is_local_call u))
+at_as u e lt is =
+    ap is_at (advance_is u (applied e (core_of u)) lt (ap (λ x. applied x (core_of u)) is)) ∙ at_effect e u (core_of u)
+
+pub at_next : (u v : UserState) (x : List ℕ) (e : Effect) → v ≡ u → v.count < STEPS → x ≡ 0 ∷ v.registers → e ≡ next_effect v.pc x v.pages → is_at (advance u) ≡ (is_calling e && not (is_local_call u))
+at_next u v x e is lt zero next =
+    let P : UserState → Type 0 = λ y. is_at (advance y) ≡ (is_calling e && not (is_local_call y)) in
+    subst P is (at_as v e lt (ap (λ y. next_effect v.pc y v.pages) (sym zero) ∙ sym next))
+
+pub not_at_full : (u : UserState) → STEPS ≤ u.count → is_at (advance u) ≡ false
+not_at_full u h = ap is_at (advance_full u h)
+
+pub at_call_by : (w : Went) → is_at w ≡ true → w ≡ AtCall
+at_call_by AtCall h = refl
+at_call_by (Done v) h = absurd (false_true h)
+at_call_by (Faults signal) h = absurd (false_true h)

@@ -124,17 +124,17 @@ leaps_from pages base place rd target ops d x new next win le z e al n t =
     at_core (base + 4 * place) x pages _ z (work_at pages base place ops d x (work.LeapsFrom rd target) win lt e ∙ aligned_jump rd (sum_of (base + 4 * place) 4) target al)
     ∙ with_parts _ _ _ _ pages (sym t) (sym n)
 
--- ---- a block does not pass its end
+pub placed : (base place at : ℕ) (x : List ℕ) (pages : PageMap) (u : Core) → one_instruction u ≡ done (core (base + 4 * place) x pages) → at ≡ place → one_instruction u ≡ done (core (base + 4 * at) x pages)
+placed base place at x pages u h e = h ∙ ap (λ p. done (core (base + 4 * p) x pages)) (sym e)
 
-pub within : (pages : PageMap) (base start at left : ℕ) (ops : List Op) → IsWindow pages base ops → start ≤ at → at ≤ 1024 → at - start ≤ left → (start + left < 1024 → slice_get ops (start + left) ≡ Some Unknown) → slice_get ops at ≢ Some Unknown → (at - start < left) × (at < 1024)
-within pages base start at left ops w above le bound stop idle =
-    let lt : at < 1024 = elim (lt_or_le at 1024) as (λ _. at < 1024) [ inl l ↦ l | inr g ↦ let is : at ≡ 1024 = omega arith in absurd (idle (ap (slice_get ops) is ∙ w.last)) ] in (
-      elim (lt_or_le (at - start) left) as (λ _. at - start < left) [
-        | inl l ↦ l
-        | inr g ↦ let is : at ≡ start + left = omega arith in absurd (idle (ap (slice_get ops) is ∙ stop (omega arith)))
-      ],
-      lt,
-    )
+pub moved : (to pc : ℕ) (x : List ℕ) (pages : PageMap) (u : Core) → one_instruction u ≡ done (core to x pages) → pc ≡ to → one_instruction u ≡ done (core pc x pages)
+moved to pc x pages u h e = h ∙ ap (λ p. done (core p x pages)) (sym e)
+
+-- ---- a block ends within its page
+
+pub below : (pages : PageMap) (base at : ℕ) (ops : List Op) → IsWindow pages base ops → at ≤ 1024 → slice_get ops at ≢ Some Unknown → at < 1024
+below pages base at ops w le idle =
+    elim (lt_or_le at 1024) as (λ _. at < 1024) [ inl l ↦ l | inr g ↦ let is : at ≡ 1024 = omega arith in absurd (idle (ap (slice_get ops) is ∙ w.last)) ]
 
 pub next_on : (g : Gone) → g ≡ Next → g ≢ Left
 next_on g e f = let is : Next ≡ Left = sym e ∙ f in cc

@@ -13,8 +13,9 @@ use Rattle.user_spec.specs.Instruction.{fetched_effect, decoded_effect, effect_o
 use Rattle.user_ctx.specs.declared.op.Op.{Op}
 use Rattle.user_ctx.specs.declared.op.Op.TheVariants.{Unknown}
 use Rattle.user_ctx.specs.declared.window.Window.{Window}
+use Rattle.user_ctx.specs.declared.windows.Windows.{Windows}
 use Rattle.user_ctx.specs.Ops.{IsOpOf, IsOp}
-use Rattle.user_ctx.specs.Windows.{word_of, SameWords, SameBut, IsClear, IsWindow, IsWindowBut, Forgets, IsWatched, IsWatchedBut, IsReady, IsReadyBut}
+use Rattle.user_ctx.specs.Windows.{word_of, SameWords, SameBut, IsClear, IsWindow, IsWindowBut, Forgets, IsWatched, IsWatchedBut, IsReady, IsReadyBut, IsOneOf, AreReady}
 
 pub is_clear : (addr low end : ℕ) → addr < 2 ^ 32 → low < 2 ^ 32 → low ≤ end → end < 0xFFFFF001 → end - low + 6 ≤ ((addr + 3) % 2 ^ 32 + (2 ^ 32 - low)) % 2 ^ 32 → IsClear addr low end
 is_clear addr low end la ll le lt h = record { range = la; each = λ at above below aligned. (λ e. absurd (omega arith), λ e. absurd (omega arith)) }
@@ -57,11 +58,6 @@ pub set_same : {A : Type 0} (xs : List A) (i : ℕ) (v d : A) → v ≡ slice_in
 set_same [] i v d e = refl
 set_same (x ∷ xs) zero v d e = ap (λ y. y ∷ xs) e
 set_same (x ∷ xs) (suc i) v d e = ap (λ ys. x ∷ ys) (set_same xs i v d e)
-
-set_back : {A : Type 0} (xs : List A) (i : ℕ) (v d : A) → set (set xs i v) i (slice_index_or xs i d) ≡ xs
-set_back [] i v d = refl
-set_back (x ∷ xs) zero v d = refl
-set_back (x ∷ xs) (suc i) v d = ap (λ ys. x ∷ ys) (set_back xs i v d)
 
 -- ---- a new page
 
@@ -188,37 +184,16 @@ watched_but addr old new low end window w s =
       below = below;
     }
 
--- ---- a block that ends where it may
-
-pub stop_there : (pages : PageMap) (low end stop : ℕ) (window : Window) → IsWatched pages low end window → stop ≤ 1024 → slice_get (set window.ops stop Unknown) stop ≡ Some Unknown
-stop_there pages low end stop window w le = get_set_here window.ops stop Unknown (let long = w.page.long in omega (arith, long))
-
-pub with_stop : (pages : PageMap) (low end stop : ℕ) (window : Window) → IsWatched pages low end window → stop ≤ 1024 → IsWatched pages low end (record window { ops = set window.ops stop Unknown })
-with_stop pages low end stop window w le = record {
-  page = record {
-    aligned = w.page.aligned;
-    range = w.page.range;
-    long = length-set window.ops stop Unknown ∙ w.page.long;
-    last = elim (eqb_tells 1024 stop) as (λ _. slice_get (set window.ops stop Unknown) 1024 ≡ Some Unknown) [
-      | inl s ↦ ap (slice_get (set window.ops stop Unknown)) s.1 ∙ stop_there pages low end stop window w le
-      | inr s ↦ get_set_other window.ops stop 1024 Unknown s.1 ∙ w.page.last
-    ];
-    each = λ i op within is. elim (eqb_tells i stop) as (λ _. IsOp pages (window.base + 4 * i) op) [
-      | inl s ↦ nothing_ready pages (window.base + 4 * i) op (get_set window.ops stop Unknown op (sym (ap (slice_get (set window.ops stop Unknown)) s.1) ∙ is))
-      | inr s ↦ w.page.each i op within (sym (get_set_other window.ops stop i Unknown s.1) ∙ is)
-    ];
-  };
-  above = w.above;
-  below = w.below;
-}
-
-pub restored : (window : Window) (stop : ℕ) (v d : Op) → record window { ops = set (set window.ops stop v) stop (slice_index_or window.ops stop d) } ≡ window
-restored window stop v d = ap (λ l. let w : Window = record window { ops = l } in w) (set_back window.ops stop v d)
-
 -- ---- several pages
 
 pub watched_at : (pages : PageMap) (low end slot : ℕ) (slots : List Window) (d : Window) → IsReady pages low end slots → slot < length slots → IsWatched pages low end (slice_index_or slots slot d)
 watched_at pages low end slot slots d r lt = r.each slot (slice_index_or slots slot d) (got slots slot d lt)
+
+pub one_at : (slots : List Window) (slot : ℕ) (d : Window) → slot < length slots → IsOneOf (slice_index_or slots slot d) slots
+one_at slots slot d lt = record { slot = slot; there = got slots slot d lt }
+
+pub one_watched : (old new : PageMap) (windows : Windows) (window : Window) → AreReady old windows → SameWords windows.low windows.end old new → IsOneOf window windows.slots → IsWatched new windows.low windows.end window
+one_watched old new windows window r s o = watched_same old new windows.low windows.end window (r.ready.each o.slot window o.there) s
 
 pub ready_set : (pages : PageMap) (low end slot : ℕ) (old new : List Window) (w : Window) → IsReady pages low end old → IsWatched pages low end w → new ≡ set old slot w → IsReady pages low end new
 ready_set pages low end slot old new w r h n = record {

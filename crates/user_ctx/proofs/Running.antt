@@ -26,17 +26,9 @@ ran_more k u v w h e = ran_on k 1 u v w h (ap (λ r. on_ran r (ran 0)) e)
 pub ran_to : (k n m : ℕ) (u v w : Core) → ran k u ≡ Some v → ran n v ≡ Some w → k + n ≡ m → ran m u ≡ Some w
 ran_to k n m u v w h e is = ap (λ i. ran i u) (sym is) ∙ ran_on k n u v w h e
 
--- one more of those from a place on, after others
-pub ran_further : (gone from at next : ℕ) (u v w : Core) → from ≤ at → next ≡ at + 1 → ran (gone + (at - from)) u ≡ Some v → one_instruction v ≡ done w → ran (gone + (next - from)) u ≡ Some w
-ran_further gone from at next u v w le is h e =
-    let more : gone + (next - from) ≡ gone + (at - from) + 1 = omega arith in
-    ap (λ k. ran k u) more ∙ ran_more (gone + (at - from)) u v w h e
-
--- one more of those from a place on, which ends them, of n of which so many are left
-pub ran_ended : (n left from at m : ℕ) (u v w : Core) → from ≤ at → left ≤ n → at - from + 1 ≤ left → m ≡ n - (left - (at - from + 1)) → ran (n - left + (at - from)) u ≡ Some v → one_instruction v ≡ done w → ran m u ≡ Some w
-ran_ended n left from at m u v w le ln room is h e =
-    let all : m ≡ n - left + (at - from) + 1 = omega arith in
-    ap (λ k. ran k u) all ∙ ran_more (n - left + (at - from)) u v w h e
+-- one more
+pub ran_next : (k m : ℕ) (u v w : Core) → ran k u ≡ Some v → one_instruction v ≡ done w → m ≡ k + 1 → ran m u ≡ Some w
+ran_next k m u v w h e is = ap (λ i. ran i u) is ∙ ran_more k u v w h e
 
 -- some, and others after which nothing changed
 pub ran_same : (k : ℕ) (u v w : Core) → ran k u ≡ Some v → w ≡ v → ran k u ≡ Some w

@@ -1,8 +1,9 @@
 -- Calls that end where the process runs.
-use Rattle.std.specs.Prelude.{ℕ, ◌≡◌, Bool, true, false, Option, Some, None}
+use Rattle.std.specs.Prelude.{ℕ, ◌≡◌, ◌≢◌, Bool, true, false, Option, Some, None}
+use Rattle.call_table.specs.declared.request.Request.{Request}
 use Rattle.user_spec.specs.User.{UserState}
-use Rattle.user_spec.specs.Request.{is_break, break_maps, is_local_call, local_call, with_value}
-use Rattle.user_spec.specs.Advance.{advance, AtCall, Faults}
+use Rattle.user_spec.specs.Request.{is_break, break_maps, is_local_call, local_call, with_value, call_request}
+use Rattle.user_spec.specs.Advance.{Went, Done, AtCall, Faults, advance}
 use Rattle.call_table.specs.declared.signal.TheConstants.{SIGSEGV}
 use Rattle.user_spec.specs.declared.effect.Effect.{Effect}
 use Rattle.user_spec.specs.declared.effect.Effect.TheVariants.{Sets, Loads, Stores, Calls, Raises}
@@ -43,3 +44,13 @@ is_calling (Raises signal) = false
 is_calling (Loads rd addr form) = false
 is_calling (Stores addr value width) = false
 is_calling (Sets rd value next) = false
+
+abbrev pub is_at : Went → Bool
+is_at AtCall = true
+is_at (Done v) = false
+is_at (Faults signal) = false
+
+-- at a forwarded call this request, none where it is at no such call
+abbrev pub AsksCall : Option Request → UserState → Type 0
+AsksCall None u = advance u ≢ AtCall
+AsksCall (Some asked) u = (advance u ≡ AtCall) × (asked ≡ call_request u)

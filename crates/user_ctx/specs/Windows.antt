@@ -56,6 +56,11 @@ pub record Forgets (word base : ℕ) (old new : List Op) : Type 0 where
   pub last : slice_get new 1024 ≡ slice_get old 1024
   pub each : (pages : PageMap) (i : ℕ) (op : Op) → i < 1024 → slice_get new i ≡ Some op → (base + 4 * i ≢ word → slice_get old i ≡ Some op) × (base + 4 * i ≡ word → IsOp pages (base + 4 * i) op)
 
+-- a page among these
+pub record IsOneOf (window : Window) (slots : List Window) : Type 0 where
+  pub slot : ℕ
+  pub there : slice_get slots slot ≡ Some window
+
 -- ---- several pages, which lie from an address on up to another one
 
 pub record IsWatched (pages : PageMap) (low end : ℕ) (window : Window) : Type 0 where

@@ -4,14 +4,19 @@ ghost use Rattle.std.specs.List.{slice_get};
 ghost use Rattle.user_spec.specs.Instruction.{ran};
 ghost use Rattle.user_spec.specs.User.{with_register};
 ghost use Rattle.user_ctx.specs.Stopping.{core};
-ghost use Rattle.user_ctx.specs.Windows.{IsWindow, IsWatched, IsClear};
-ghost use Rattle.user_ctx.specs.Blocks.{pc_after, IsGone, Keeps};
+ghost use Rattle.user_ctx.specs.Windows.{IsWindow, IsClear, IsOneOf, AreReady};
+ghost use Rattle.user_ctx.specs.Blocks.{pc_after, loaded_width, stored_width, is_in_page, IsGone, Keeps};
 
 use crate::op::{Op, Work, work_done};
 use crate::place::Destination;
 use crate::step::{load, store};
 use crate::window::Window;
+use crate::windows::Windows;
 use page_set::Pages;
+use user_spec::effect::{Form, Width};
+
+/// A block has no more instructions than this.
+const MOST_IN_BLOCK: u32 = 1024;
 
 /// How ready instructions came out.
 #[derive(Clone, Copy)]
@@ -62,6 +67,41 @@ fn place_in(target: u32, base: u32) -> Option<usize>
     }
 }
 
+/// How many bytes are loaded.
+#[inline(always)]
+fn loaded_width(form: Form) -> u32
+    ensures { result ≡ loaded_width form }
+{
+    match form {
+        Form::SignedByte => 1,
+        Form::SignedHalf => 2,
+        Form::Word => 4,
+        Form::Byte => 1,
+        Form::Half => 2,
+    }
+}
+
+/// How many bytes are stored.
+#[inline(always)]
+fn stored_width(width: Width) -> u32
+    ensures { result ≡ stored_width width }
+{
+    match width {
+        Width::One => 1,
+        Width::Two => 2,
+        Width::Four => 4,
+    }
+}
+
+/// Whether so many bytes from an address on lie in one page.
+#[inline(always)]
+fn is_in_page(addr: u32, width: u32) -> bool
+    requires { width ≤ 4 }
+    ensures { result ≡ is_in_page addr width }
+{
+    addr % 4096 + width <= 4096
+}
+
 /// One ready instruction, at a place of the page, where words of pages from `low` up to `end` are ready.
 #[inline(always)]
 #[tactic(auto, using(crate::proofs::Stored::same_words))]
@@ -91,25 +131,35 @@ fn step_ready(
             *place += 1;
             Gone::Next
         }
-        Work::Loads { rd, addr, form } => match load(pages, addr, form) {
-            Ok(value) => {
-                set_destination(x, rd, value);
-                *place += 1;
-                Gone::Next
+        Work::Loads { rd, addr, form } => {
+            if !is_in_page(addr, loaded_width(form)) {
+                return Gone::Left;
             }
-            Err(_) => Gone::Left,
-        },
-        Work::Stores { addr, value, width } => match store(pages, addr, value, width) {
-            Ok(()) => {
-                *place += 1;
-                if is_clear(addr, low, end) {
+            match load(pages, addr, form) {
+                Ok(value) => {
+                    set_destination(x, rd, value);
+                    *place += 1;
                     Gone::Next
-                } else {
-                    Gone::Wrote(addr)
                 }
+                Err(_) => Gone::Left,
             }
-            Err(_) => Gone::Left,
-        },
+        }
+        Work::Stores { addr, value, width } => {
+            if !is_in_page(addr, stored_width(width)) {
+                return Gone::Left;
+            }
+            match store(pages, addr, value, width) {
+                Ok(()) => {
+                    *place += 1;
+                    if is_clear(addr, low, end) {
+                        Gone::Next
+                    } else {
+                        Gone::Wrote(addr)
+                    }
+                }
+                Err(_) => Gone::Left,
+            }
+        }
         Work::Falls => {
             *place += 1;
             Gone::Next
@@ -163,137 +213,156 @@ fn same_place(place: usize) -> usize
     place % 2048
 }
 
-/// Blocks of ready instructions until one was not ready or did not go, led out of the page or stored where words may be
-/// ready, or until fewer than a page's are left: how many were done, and how the last one came out.
+/// The page in a slot.
 #[inline(always)]
-#[tactic(auto, using(crate::proofs::Going::within, crate::proofs::Made::window_same))]
-fn run_blocks(
-    window: &Window,
-    low: u32,
-    end: u32,
-    place: &mut usize,
-    x: &mut [u32; 32],
-    pages: &mut Pages,
-    n: u32,
-) -> (u32, Gone)
-    requires zero { x.old ≡ 0 ∷ drop 1 x.old }
-    requires place { place.old < 1024 }
-    requires window { IsWatched pages.old low end window.now }
-    requires end { end < 0xFFFFF001 }
-    requires stop { place.old + n < 1024 → slice_get window.now.ops (place.old + n) ≡ Some Op.Unknown }
-    ensures zero { x.new ≡ 0 ∷ drop 1 x.new }
-    ensures place { place.new ≤ 1024 }
-    ensures most { result.0 ≤ n }
-    ensures some { result.1 ≢ Gone.Left → 0 < result.0 }
-    ensures went { ran result.0 (core (window.now.base + 4 * place.old) x.old pages.old) ≡ Some (core (pc_after result.1 (window.now.base + 4 * place.new)) x.new pages.new) }
-    ensures keeps { Keeps result.1 low end pages.old pages.new }
+#[tactic(auto, using(crate::proofs::Made::one_at))]
+fn window_at(slots: &[Window; 4], slot: usize) -> &Window
+    requires { slot < 4 }
+    ensures { IsOneOf result.now slots.now }
 {
-    let mut at = *place;
-    let mut start = at;
-    let mut left = n;
-    loop {
-        let here = at;
-        match step_ready(window, low, end, &mut at, x, pages) {
-            Gone::Next => at = same_place(at),
-            Gone::Jumped => {
-                left -= (here - start) as u32 + 1;
-                start = at;
-                if left < 1024 {
-                    *place = at;
-                    return (n - left, Gone::Jumped);
-                }
-            }
-            Gone::Away(to) => {
-                *place = at;
-                return (n - left + ((here - start) as u32 + 1), Gone::Away(to));
-            }
-            Gone::Wrote(addr) => {
-                *place = at;
-                return (n - left + ((here - start) as u32 + 1), Gone::Wrote(addr));
-            }
-            Gone::Left => {
-                *place = at;
-                return (n - left + (here - start) as u32, Gone::Left);
-            }
-        }
-    }
+    &slots[slot]
 }
 
-/// The same, where a block ends before more instructions were done than are asked for.
+/// Blocks of ready instructions until one was not ready or did not go, led to a page that is not at hand or stored where
+/// words may be ready, or until fewer are left than a block may have: how many were done, and how the last one came out.
 #[inline(always)]
-#[tactic(auto, using(crate::proofs::Made::with_stop, crate::proofs::Made::stop_there, crate::proofs::Made::restored))]
-fn run_stopped(
-    window: &mut Window,
-    low: u32,
-    end: u32,
-    place: &mut usize,
-    x: &mut [u32; 32],
-    pages: &mut Pages,
-    n: u32,
-) -> (u32, Gone)
-    requires zero { x.old ≡ 0 ∷ drop 1 x.old }
-    requires place { place.old < 1024 }
-    requires window { IsWatched pages.old low end window.old }
-    requires end { end < 0xFFFFF001 }
-    ensures zero { x.new ≡ 0 ∷ drop 1 x.new }
-    ensures place { place.new ≤ 1024 }
-    ensures most { result.0 ≤ n }
-    ensures some { result.1 ≢ Gone.Left → 0 < result.0 }
-    ensures went { ran result.0 (core (window.old.base + 4 * place.old) x.old pages.old) ≡ Some (core (pc_after result.1 (window.old.base + 4 * place.new)) x.new pages.new) }
-    ensures keeps { Keeps result.1 low end pages.old pages.new }
-    ensures window { window.new ≡ window.old }
-{
-    let stop = (*place + n as usize).min(1024);
-    let op = window.ops[stop];
-    window.ops[stop] = Op::Unknown;
-    let (went, gone) = run_blocks(window, low, end, place, x, pages, n);
-    window.ops[stop] = op;
-    (went, gone)
-}
-
-/// The address of the next instruction, from the place that was reached.
-#[inline(always)]
-fn next_pc(gone: Gone, at: u32) -> u32
-    ensures { result ≡ pc_after gone at }
-{
-    match gone {
-        Gone::Away(to) => to,
-        Gone::Next => at,
-        Gone::Jumped => at,
-        Gone::Wrote(_) => at,
-        Gone::Left => at,
-    }
-}
-
-/// Ready instructions of a page, of which so many are asked for: how many were done, and how the last one came out.
-#[inline(always)]
-pub fn run_page(
-    window: &mut Window,
-    low: u32,
-    end: u32,
+#[tactic(auto)]
+fn run_long(
+    windows: &Windows,
+    slot: usize,
     pc: &mut u32,
     x: &mut [u32; 32],
     pages: &mut Pages,
     n: u32,
 ) -> (u32, Gone)
     requires zero { x.old ≡ 0 ∷ drop 1 x.old }
-    requires aligned { pc.old % 4 ≡ 0 }
-    requires window { IsWatched pages.old low end window.old }
-    requires end { end < 0xFFFFF001 }
+    requires slot { slot < 4 }
+    requires ready { AreReady pages.old windows.now }
+    requires many { 1024 ≤ n }
     ensures zero { x.new ≡ 0 ∷ drop 1 x.new }
     ensures most { result.0 ≤ n }
     ensures some { result.1 ≢ Gone.Left → 0 < result.0 }
     ensures went { ran result.0 (core pc.old x.old pages.old) ≡ Some (core pc.new x.new pages.new) }
-    ensures keeps { Keeps result.1 low end pages.old pages.new }
-    ensures window { window.new ≡ window.old }
+    ensures keeps { Keeps result.1 windows.now.low windows.now.end pages.old pages.new }
 {
-    let at = *pc;
-    let base = window.base;
-    if at / 4096 * 4096 != base {
-        return (0, Gone::Left);
+    let low = windows.low;
+    let high = windows.end;
+    let mut window = window_at(&windows.slots, slot);
+    let first = *pc;
+    let mut at = match place_in(first, window.base) {
+        Some(place) => place,
+        None => return (0, Gone::Left),
+    };
+    let mut end = at + n as usize;
+    loop {
+        let here = at;
+        match step_ready(window, low, high, &mut at, x, pages) {
+            Gone::Next => at = same_place(at),
+            Gone::Jumped => {
+                let left = end - here - 1;
+                if left < MOST_IN_BLOCK as usize {
+                    *pc = window.base + 4 * at as u32;
+                    return (n - left as u32, Gone::Jumped);
+                }
+                end = at + left;
+            }
+            Gone::Away(to) => {
+                let left = end - here - 1;
+                let other = window_at(&windows.slots, windows.hint(to));
+                match place_in(to, other.base) {
+                    Some(place) if left >= MOST_IN_BLOCK as usize => {
+                        window = other;
+                        at = place;
+                        end = place + left;
+                    }
+                    _ => {
+                        *pc = to;
+                        return (n - left as u32, Gone::Away(to));
+                    }
+                }
+            }
+            Gone::Wrote(addr) => {
+                *pc = window.base + 4 * at as u32;
+                return (n - (end - here - 1) as u32, Gone::Wrote(addr));
+            }
+            Gone::Left => {
+                *pc = window.base + 4 * at as u32;
+                return (n - (end - here) as u32, Gone::Left);
+            }
+        }
     }
-    let mut place = (at / 4 % 1024) as usize;
-    let (went, gone) = run_stopped(window, low, end, &mut place, x, pages, n);
-    *pc = next_pc(gone, base + 4 * place as u32);
-    (went, gone)
+}
+
+/// Ready instructions of one page until so many were done, or one was not ready or did not go, led out of the page or stored
+/// where words may be ready: how many were done, and how the last one came out.
+#[inline(never)]
+#[tactic(auto)]
+fn run_short(
+    windows: &Windows,
+    slot: usize,
+    pc: &mut u32,
+    x: &mut [u32; 32],
+    pages: &mut Pages,
+    n: u32,
+) -> (u32, Gone)
+    requires zero { x.old ≡ 0 ∷ drop 1 x.old }
+    requires slot { slot < 4 }
+    requires ready { AreReady pages.old windows.now }
+    ensures zero { x.new ≡ 0 ∷ drop 1 x.new }
+    ensures most { result.0 ≤ n }
+    ensures some { result.1 ≢ Gone.Left → 0 < result.0 }
+    ensures went { ran result.0 (core pc.old x.old pages.old) ≡ Some (core pc.new x.new pages.new) }
+    ensures keeps { Keeps result.1 windows.now.low windows.now.end pages.old pages.new }
+{
+    let window = window_at(&windows.slots, slot);
+    let first = *pc;
+    let mut at = match place_in(first, window.base) {
+        Some(place) => place,
+        None => return (0, Gone::Left),
+    };
+    for i in 0..n {
+        match step_ready(window, windows.low, windows.end, &mut at, x, pages) {
+            Gone::Next => at = same_place(at),
+            Gone::Jumped => {}
+            Gone::Away(to) => {
+                *pc = to;
+                return (i + 1, Gone::Away(to));
+            }
+            Gone::Wrote(addr) => {
+                *pc = window.base + 4 * at as u32;
+                return (i + 1, Gone::Wrote(addr));
+            }
+            Gone::Left => {
+                *pc = window.base + 4 * at as u32;
+                return (i, Gone::Left);
+            }
+        }
+    }
+    *pc = window.base + 4 * at as u32;
+    (n, Gone::Left)
+}
+
+/// Ready instructions, of which so many are asked for: how many were done, and how the last one came out.
+#[inline(always)]
+pub fn run_blocks(
+    windows: &Windows,
+    slot: usize,
+    pc: &mut u32,
+    x: &mut [u32; 32],
+    pages: &mut Pages,
+    n: u32,
+) -> (u32, Gone)
+    requires zero { x.old ≡ 0 ∷ drop 1 x.old }
+    requires slot { slot < 4 }
+    requires ready { AreReady pages.old windows.now }
+    ensures zero { x.new ≡ 0 ∷ drop 1 x.new }
+    ensures most { result.0 ≤ n }
+    ensures some { result.1 ≢ Gone.Left → 0 < result.0 }
+    ensures went { ran result.0 (core pc.old x.old pages.old) ≡ Some (core pc.new x.new pages.new) }
+    ensures keeps { Keeps result.1 windows.now.low windows.now.end pages.old pages.new }
+{
+    if n < MOST_IN_BLOCK {
+        return run_short(windows, slot, pc, x, pages, n);
+    }
+    run_long(windows, slot, pc, x, pages, n)
 }

@@ -7,7 +7,7 @@ ghost use Rattle.user_spec.specs.Request.{number_of, args_of, stack_pointer, is_
 ghost use Rattle.user_spec.specs.Advance.{Walk, Done, advance, walked, grows, counted, stepped, request_of};
 ghost use Rattle.user_spec.specs.Fits.{forwards, fits_answer, fits_buffer, fills, has_room_at};
 ghost use Rattle.user_ctx.specs.Stopping.{StopsAt, Leads, EndsAs, limited, IsAtEcall};
-ghost use Rattle.user_ctx.specs.Calling.{IsPlan, IsLocal, signal_of, AsksBy, is_calling};
+ghost use Rattle.user_ctx.specs.Calling.{IsPlan, IsLocal, signal_of, AsksBy, is_calling, is_at, AsksCall};
 ghost use Rattle.user_ctx.specs.Heap.{mapped_for};
 
 use crate::heap::{self, HEAP_END};
@@ -382,7 +382,8 @@ impl User {
         self.x[2]
     }
 
-    fn number(&self) -> u32
+    /// The number of the call that it makes, where it is at one.
+    pub fn number(&self) -> u32
         ensures { result ≡ number_of self.now }
     {
         self.x[17]
@@ -496,9 +497,10 @@ impl User {
     }
 
     /// Whether it is at a forwarded call.
-    #[tactic(auto, using(crate::proofs::Fitting::full_forwards))]
+    #[tactic(auto, using(crate::proofs::Fitting::full_forwards, crate::proofs::Asking::not_at_full))]
     pub fn is_at_call(&self) -> bool
-        ensures { result ≡ forwards (request_of self.now) }
+        ensures forwards { result ≡ forwards (request_of self.now) }
+        ensures at { result ≡ is_at (advance self.now) }
     {
         if self.count >= STEPS {
             return false;
@@ -507,6 +509,17 @@ impl User {
             return false;
         }
         self.is_forwarded()
+    }
+
+    /// What it asks at a forwarded call. None exactly where it is at none.
+    pub fn call(&self, alloc: Global) -> Result<Option<Request>, NoMemory>
+        ensures { IfOk result (λ asked. AsksCall asked self.now) }
+    {
+        if !self.is_at_call() {
+            return Ok(None);
+        }
+        let request = self.call_request(alloc)?;
+        Ok(Some(request))
     }
 
     /// Whether so many bytes fit the buffer that the call which the process is at writes.

@@ -10,8 +10,8 @@ use rv_decode::decode;
 /// The words of the page from an address on, made ready. Behind them stands one that is not.
 #[derive(Clone, Copy)]
 pub struct Window {
-    pub base: u32,
     pub ops: [Op; 1025],
+    pub base: u32,
 }
 
 impl Window {
@@ -25,8 +25,8 @@ impl Window {
         ensures base { result.base ≡ base }
     {
         Window {
-            base,
             ops: [Op::Unknown; 1025],
+            base,
         }
     }
 

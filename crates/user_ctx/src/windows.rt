@@ -3,9 +3,8 @@ ghost use Rattle.std.specs.Prelude.{◌≡◌, ◌≢◌, ◌≤◌, ◌<◌, �
 ghost use Rattle.user_spec.specs.Instruction.{one_instruction, ran};
 ghost use Rattle.user_ctx.specs.Stopping.{core};
 ghost use Rattle.user_ctx.specs.Windows.{IsReady, IsReadyBut, AreReady};
-ghost use Rattle.user_ctx.specs.Blocks.{Keeps};
 
-use crate::blocks::{Gone, run_page};
+use crate::blocks::{Gone, run_blocks};
 use crate::step::step;
 use crate::window::Window;
 use page_set::Pages;
@@ -22,35 +21,8 @@ pub struct Windows {
     pub end: u32,
     /// The page that the next new one takes the place of.
     pub next: usize,
-}
-
-/// Ready instructions of one page.
-#[inline(always)]
-#[tactic(auto, using(crate::proofs::Made::watched_at, crate::proofs::Made::set_same))]
-fn run_slot(
-    slots: &mut [Window; 4],
-    slot: usize,
-    low: u32,
-    end: u32,
-    pc: &mut u32,
-    x: &mut [u32; 32],
-    pages: &mut Pages,
-    n: u32,
-) -> (u32, Gone)
-    requires zero { x.old ≡ 0 ∷ drop 1 x.old }
-    requires aligned { pc.old % 4 ≡ 0 }
-    requires slot { slot < 4 }
-    requires ready { IsReady pages.old low end slots.old }
-    requires end { end < 0xFFFFF001 }
-    ensures zero { x.new ≡ 0 ∷ drop 1 x.new }
-    ensures most { result.0 ≤ n }
-    ensures some { result.1 ≢ Gone.Left → 0 < result.0 }
-    ensures went { ran result.0 (core pc.old x.old pages.old) ≡ Some (core pc.new x.new pages.new) }
-    ensures keeps { Keeps result.1 low end pages.old pages.new }
-    ensures slots { slots.new ≡ slots.old }
-{
-    let (went, gone) = run_page(&mut slots[slot], low, end, pc, x, pages, n);
-    (went, gone)
+    /// Where a page may be, by the low bits of its number.
+    pub hints: [u8; 16],
 }
 
 /// Forgets the words that four bytes from an address on touch.
@@ -87,7 +59,16 @@ impl Windows {
             low: base,
             end: base + 4096,
             next: 1,
+            hints: [0; 16],
         }
+    }
+
+    /// Where the page of an address may be.
+    #[inline(always)]
+    pub fn hint(&self, at: u32) -> usize
+        ensures { result < 4 }
+    {
+        (self.hints[(at / 4096 % 16) as usize] % 4) as usize
     }
 
     fn find(&self, base: u32) -> Option<usize>
@@ -128,10 +109,12 @@ impl Windows {
         ensures slot { result < 4 }
         ensures ready { AreReady pages.now self.new }
     {
-        match self.find(base) {
+        let slot = match self.find(base) {
             Some(slot) => slot,
             None => self.renew(base, pages),
-        }
+        };
+        self.hints[(base / 4096 % 16) as usize] = slot as u8;
+        slot
     }
 
     /// Makes the word at an address ready, where that can be.
@@ -164,7 +147,7 @@ impl Windows {
             return (0, false);
         }
         let slot = self.slot_of(at / 4096 * 4096, pages);
-        let (went, gone) = run_slot(&mut self.slots, slot, self.low, self.end, pc, x, pages, n);
+        let (went, gone) = run_blocks(&*self, slot, pc, x, pages, n);
         match gone {
             Gone::Left => (went, false),
             Gone::Next => (went, true),

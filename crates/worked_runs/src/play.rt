@@ -7,10 +7,10 @@ use elf_load::load;
 use mosix_shell::report::report;
 use mosix_shell::script::{script_of, words_of};
 use node_event::Order;
-use one_node::Step;
 use one_node::going::Ran;
-use one_node::home::{Applied, Feeds, Home, Outcome, Setup};
+use one_node::home::{Applied, Home, Outcome};
 use one_node::play::{PlayFault, play};
+use one_node::{Feeds, Setup, Step};
 use std::alloc::Global;
 use std::process::Abort;
 use std::test::Fail;
@@ -122,15 +122,19 @@ fn goes_to_its_end(
         reply: None,
     };
     assert_eq!(rt; home.apply(alloc, setup, &Step::Launch(0)), Ok(launched));
-    for (steps, number, reply) in [(5, 9, REPLIES[0]), (2, 1, REPLIES[1])] {
+    for (steps, number, value) in [(5, 9, 3), (2, 1, 0)] {
+        let served = Applied::Did {
+            raised: None,
+            reply: Some(value),
+        };
         assert_eq!(rt; home.ended(1), None);
-        assert_eq!(rt; home.go(alloc, 1, 16_384), Ok(Some(Ran::Steps(steps))));
-        assert_eq!(rt; home.go(alloc, 1, 16_384), Ok(Some(Ran::Asks(number))));
-        assert_eq!(rt; home.serve(alloc, 1), Ok(Some(reply)));
+        assert_eq!(rt; home.go(1, 16_384), Ok(Some(Ran::Steps(steps))));
+        assert_eq!(rt; home.go(1, 16_384), Ok(Some(Ran::Asks(number))));
+        assert_eq!(rt; home.serve(alloc, 1), Ok(served));
     }
     assert_eq!(rt; home.ended(1), Some(End::Exit(0)));
-    assert_eq!(rt; home.go(alloc, 1, 1), Ok(None));
-    assert_eq!(rt; home.serve(alloc, 1), Ok(None));
+    assert_eq!(rt; home.go(1, 1), Ok(None));
+    assert_eq!(rt; home.serve(alloc, 1), Ok(Applied::Not));
     tells_hello(rt, &home.outcome(alloc)?);
     Ok(())
 }

@@ -1,5 +1,5 @@
 use Rattle.std.proofs.Common.{◌∙◌, sym}
-use Rattle.one_node.proofs.Built.{live_low, live_within}
+use Rattle.one_node.proofs.Lives.{live_low, live_within}
 use Rattle.one_node.proofs.going.live.Goals as goal
 
 pub returns-clause-bounds : goal.returns-clause-bounds
