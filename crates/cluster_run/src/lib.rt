@@ -2,4 +2,6 @@
 #![tactic(auto)]
 
 mod meeting;
+mod seat;
+mod seats;
 mod side;
