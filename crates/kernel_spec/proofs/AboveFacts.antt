@@ -1,6 +1,6 @@
 -- Pids that were not given: nobody lives there, has an end or a signal, and nothing that is done there changes anything.
-use Rattle.std.proofs.Common.{◌≡◌, ℕ, zero, suc, ◌+◌, ◌<◌, ◌==◌, ◌&&◌, ◌||◌, not, Bool, true, false, cond, List, length, Option, Some, None, slice_get, refl, ap, ◌∙◌, arith}
-use Rattle.std.specs.Option.{option_map, option_map_or, option_and_then}
+use Rattle.std.proofs.Common.{◌≡◌, ℕ, zero, suc, ◌<◌, ◌==◌, ◌&&◌, ◌||◌, not, Bool, true, false, cond, List, length, None, ap, ◌∙◌, arith}
+use Rattle.std.specs.Option.{option_map_or, option_and_then}
 use Rattle.std.proofs.lemmas.Option.{slice_get_past}
 use Rattle.std.proofs.lemmas.Bool.{and_right, or_from, not_from_true, cond-false}
 use Rattle.call_table.specs.Calls.{is_signal_number}
@@ -10,8 +10,8 @@ use Rattle.proc_tree.specs.Processes.{is_live as is_live_process, is_zombie, end
 use Rattle.proc_tree.specs.Tree.{live_at, zombie_at}
 use Rattle.signal_set.specs.Signals.{lowest_deliverable}
 use Rattle.kernel_spec.specs.Pids.{at_pid}
-use Rattle.kernel_spec.specs.Processes.{ProcessTable, has_done, kill_result}
-use Rattle.kernel_spec.specs.Kernel.{KernelState, AfterTake, given, is_live, end_at, deliverable, with_end, with_raised, take_result}
+use Rattle.kernel_spec.specs.Processes.{has_done, kill_result}
+use Rattle.kernel_spec.specs.Kernel.{KernelState, given, is_live, end_at, deliverable, with_end, with_raised, take_result}
 use Rattle.kernel_spec.proofs.KernelFacts.{end_of_none, raise_at_none, take_of_none}
 
 past : {A : Type 0} (xs : List A) (q : ℕ) → length xs < q → at_pid xs q ≡ None

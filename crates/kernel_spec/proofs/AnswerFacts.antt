@@ -1,26 +1,24 @@
 -- That every answer fits its call.
-use Rattle.std.proofs.Common.{◌≡◌, ◌≢◌, ℕ, zero, suc, ◌+◌, ◌<◌, ◌≤◌, ◌==◌, ◌&&◌, ◌||◌, not, nat_le, min, int_lt, Bool, true, false, cond, ℤ, pos, List, [], ◌∷◌, ◌++◌, length, take, slice_index, Option, Some, None, is_none, refl, ap, subst, sym, inl, inr, ◌∙◌, arith}
+use Rattle.std.proofs.Common.{◌≡◌, ℕ, ◌<◌, ◌≤◌, ◌==◌, ◌&&◌, nat_le, min, Bool, true, false, cond, ℤ, pos, List, [], length, take, slice_index, Option, Some, None, is_none, refl, ap, subst, sym, inl, inr, ◌∙◌, arith}
 use Rattle.std.specs.Int.{to_le_bytes, w32, cast_signed}
-use Rattle.std.proofs.lemmas.Bool.{cases_Bool, eqb-true, eqb-false, lt-ltb, le-leb, or_right, eq-eqb}
-use Rattle.std.proofs.lemmas.List.{length-take, length-append}
+use Rattle.std.proofs.lemmas.Bool.{cases_Bool, eqb-true, lt-ltb, le-leb, or_right}
+use Rattle.std.proofs.lemmas.List.{length-take}
 use Rattle.call_table.specs.Calls.{need_of}
 use Rattle.call_table.specs.declared.call.TheConstants.{EXIT, GETPPID, FORK, WAIT, OPEN, CLOSE, READ, WRITE, LSEEK, PIPE, DUP, UNLINK, KILL, SIGACT, SIGRETURN, SIGMASK, YIELD}
 use Rattle.call_table.specs.declared.error.TheConstants.{ECHILD, EINTR, ENOSYS}
 use Rattle.call_table.specs.declared.limit.TheConstants.{FILE_BYTES, TRANSFER_BYTES}
-use Rattle.call_table.specs.declared.process.End.{End}
 use Rattle.call_table.specs.declared.request.Request.{Request}
-use Rattle.call_table.specs.declared.request.Answer.{Answer}
 use Rattle.call_table.specs.declared.request.Need.{Need}
-use Rattle.call_table.specs.declared.request.Kind.TheVariants.{Plain, Fork, Return}
+use Rattle.call_table.specs.declared.request.Kind.TheVariants.{Plain}
 use Rattle.fd_table.specs.Descriptors.{look_at, end_count}
 use Rattle.fd_table.specs.declared.description.Look.{Look}
 use Rattle.fd_table.specs.declared.description.Target.{Target}
 use Rattle.fd_table.specs.declared.description.Target.TheVariants.{TermIn, TermOut, File, ReadEnd, WriteEnd}
 use Rattle.pipe_table.specs.Table.{bytes_at, room_at, free_id}
 use Rattle.proc_tree.specs.Tree.{next_pid_of, lowest_zombie, has_child_of}
-use Rattle.kernel_spec.specs.Processes.{status_bytes, status_number}
-use Rattle.kernel_spec.specs.Io.{IoState, IoGiven, pipe_result, pipe_unless, pipe_to, ends_error}
-use Rattle.kernel_spec.specs.Kernel.{KernelState, Called, given, end_at, answers, value_answer}
+use Rattle.kernel_spec.specs.Processes.{status_number}
+use Rattle.kernel_spec.specs.Io.{IoState, pipe_result, pipe_unless, pipe_to, ends_error}
+use Rattle.kernel_spec.specs.Kernel.{KernelState, Called, end_at, answers, value_answer}
 use Rattle.kernel_spec.specs.Calls.{call_result, call_row, fork_to, wait_for, read_input, read_pipe, read_in, read_at, can_read, room_of, write_pipe, write_in, write_at, can_write, broken, given_answer, bytes_answer}
 use Rattle.kernel_spec.specs.Answers.{fits_answer, fits_buffer, fits_kind}
 use Rattle.kernel_spec.proofs.TreeFacts.{room_below}
@@ -122,6 +120,7 @@ ends_fit addr io p = by_error (ends_error io.fds p)
     by_free : (o : Option ℕ) → fits_kind Plain PIPE (Some (record { addr = addr; len = 8; right = 2 })) (given_answer (pipe_to o io p)) ≡ true
     by_free None = refl
     by_free (Some pipe) = refl
+
     by_error : (o : Option ℤ) → fits_kind Plain PIPE (Some (record { addr = addr; len = 8; right = 2 })) (given_answer (pipe_unless o io p)) ≡ true
     by_error None = by_free (free_id io.pipes)
     by_error (Some error) = refl
@@ -133,8 +132,8 @@ row : (number this : ℕ) (args : List ℕ) (sp : ℕ) (x y : Option Called) →
 row number this args sp x y f g =
     elim (cases_Bool (number == this)) [
       | inl e ↦
-        let here : Fits number (need_of number args sp) x = subst (λ n. Fits n (need_of n args sp) x) (sym (eqb-true number this e)) f in
-        subst (λ b. Fits number (need_of number args sp) (cond b x y)) (sym e) here
+          let here : Fits number (need_of number args sp) x = subst (λ n. Fits n (need_of n args sp) x) (sym (eqb-true number this e)) f in
+          subst (λ b. Fits number (need_of number args sp) (cond b x y)) (sym e) here
       | inr e ↦ subst (λ b. Fits number (need_of number args sp) (cond b x y)) (sym e) (g e)
     ]
 
@@ -169,9 +168,9 @@ pub blocks_is_no_return : (k : KernelState) (p : ℕ) (asked : Request) → call
 blocks_is_no_return k p asked blocks =
     elim (cases_Bool (asked.number == SIGRETURN)) [
       | inl e ↦
-        let n : asked.number ≡ SIGRETURN = eqb-true asked.number SIGRETURN e in
-        let goes = never_blocks asked.number k p asked.args asked.bytes (ap (λ m. m == WAIT) n) (ap (λ m. m == READ) n) (ap (λ m. m == WRITE) n) in
-        let no : true ≡ false = sym (ap is_none blocks) ∙ goes in absurd (cc)
+          let n : asked.number ≡ SIGRETURN = eqb-true asked.number SIGRETURN e in
+          let goes = never_blocks asked.number k p asked.args asked.bytes (ap (λ m. m == WAIT) n) (ap (λ m. m == READ) n) (ap (λ m. m == WRITE) n) in
+          let no : true ≡ false = sym (ap is_none blocks) ∙ goes in absurd (cc)
       | inr e ↦ e
     ]
 

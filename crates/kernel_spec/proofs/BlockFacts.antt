@@ -1,5 +1,5 @@
 -- A call blocks exactly where what it waits for has not come.
-use Rattle.std.proofs.Common.{◌≡◌, ℕ, zero, suc, ◌==◌, ◌&&◌, ◌||◌, not, nat_le, Bool, true, false, cond, List, [], length, slice_index, Option, Some, None, is_some, is_none, refl, ap, subst, sym, inl, inr, ◌∙◌, arith}
+use Rattle.std.proofs.Common.{◌≡◌, ℕ, ◌==◌, ◌&&◌, ◌||◌, not, Bool, true, false, cond, List, length, slice_index, Option, Some, None, is_some, is_none, refl, ap, subst, sym, inl, inr, ◌∙◌}
 use Rattle.std.proofs.lemmas.Bool.{cases_Bool, eqb-true}
 use Rattle.call_table.specs.declared.call.TheConstants.{WAIT, READ, WRITE}
 use Rattle.call_table.specs.declared.error.TheConstants.{ECHILD}
@@ -11,8 +11,8 @@ use Rattle.fd_table.specs.declared.description.Target.TheVariants.{TermIn, TermO
 use Rattle.pipe_table.specs.Table.{bytes_at, room_at}
 use Rattle.proc_tree.specs.Tree.{has_child_of, lowest_zombie}
 use Rattle.kernel_spec.specs.Kernel.{KernelState, Called, answers}
-use Rattle.kernel_spec.specs.Calls.{call_result, call_row, wait_for, wait_result, read_result, read_at, read_in, can_read, write_result, write_at, write_in, can_write}
-use Rattle.kernel_spec.specs.Waiting.{Waiting, ForChild, ForInput, ForBytes, ForRoom, has_come, read_awaits, write_awaits, read_look, write_look, awaited, awaited_row, still_waits}
+use Rattle.kernel_spec.specs.Calls.{call_result, call_row, wait_for, read_at, read_in, can_read, write_at, write_in, can_write}
+use Rattle.kernel_spec.specs.Waiting.{Waiting, ForChild, read_awaits, write_awaits, read_look, write_look, awaited, awaited_row, still_waits}
 use Rattle.kernel_spec.proofs.Blocking.{never_blocks}
 
 wait_blocks : (zombie : Option ℕ) (k : KernelState) (p status : ℕ) → lowest_zombie k.processes.tree p ≡ zombie → is_none (wait_for zombie k p status) ≡ still_waits (cond (has_child_of k.processes.tree p) (Some ForChild) None) k p

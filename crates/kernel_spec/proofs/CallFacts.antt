@@ -1,13 +1,12 @@
 -- What a call of one process leaves of the others.
-use Rattle.std.proofs.Common.{◌≡◌, ◌≢◌, ℕ, zero, suc, ◌+◌, ◌<◌, ◌==◌, ◌&&◌, ◌||◌, not, nat_le, Bool, true, false, cond, ℤ, pos, List, [], ◌∷◌, ◌++◌, length, map, slice_index, Option, Some, None, refl, ap, subst, sym, inl, inr, ◌∙◌, arith}
-use Rattle.std.specs.Option.{option_map, option_and_then}
+use Rattle.std.proofs.Common.{◌≡◌, ◌≢◌, ℕ, ◌+◌, ◌==◌, ◌&&◌, ◌||◌, not, nat_le, Bool, true, false, cond, pos, List, length, slice_index, Option, Some, None, refl, ap, subst, sym, inl, inr, ◌∙◌}
 use Rattle.std.proofs.lemmas.Bool.{cases_Bool, eqb-true, eqb-false}
 use Rattle.std.proofs.lemmas.Option.{none-some, same_Some}
 use Rattle.call_table.specs.Calls.{is_signal_number}
 use Rattle.call_table.specs.declared.call.TheConstants.{EXIT, GETPPID, FORK, WAIT, OPEN, CLOSE, READ, WRITE, LSEEK, PIPE, DUP, UNLINK, KILL, SIGACT, SIGRETURN, SIGMASK, YIELD}
-use Rattle.call_table.specs.declared.error.TheConstants.{ECHILD, EAGAIN}
+use Rattle.call_table.specs.declared.error.TheConstants.{ECHILD}
 use Rattle.call_table.specs.declared.limit.TheConstants.{FILE_BYTES}
-use Rattle.call_table.specs.declared.signal.TheConstants.{SIGCHLD, SIGKILL, SIGPIPE}
+use Rattle.call_table.specs.declared.signal.TheConstants.{SIGKILL, SIGPIPE}
 use Rattle.call_table.specs.declared.process.End.{End}
 use Rattle.call_table.specs.declared.request.Request.{Request}
 use Rattle.call_table.specs.declared.request.Answer.{Answer}
@@ -21,10 +20,10 @@ use Rattle.signal_set.specs.Signals.{SignalState}
 use Rattle.kernel_spec.specs.Pids.{at_pid, changed_pid}
 use Rattle.kernel_spec.specs.Io.{all_closed}
 use Rattle.kernel_spec.specs.Processes.{ProcessTable, ProcessDone, raised_at, lowest_at, heeding, heeding_other, parent_raised, ended_in, kill_result, sigact_result}
-use Rattle.kernel_spec.specs.Kernel.{KernelState, Called, given, is_live, deliverable, with_end, with_raised, raised_by_end, answers}
+use Rattle.kernel_spec.specs.Kernel.{KernelState, Called, given, is_live, with_end, with_raised, raised_by_end, answers}
 use Rattle.kernel_spec.specs.Calls.{call_result, call_row, fork_to, with_fork, inherited, without_zombie, wait_for, read_input, read_pipe, read_in, read_at, can_read, room_of, write_pipe, write_in, write_at, can_write}
-use Rattle.kernel_spec.specs.Others.{LeavesOthers, LeavesProcesses, child_after, child_of, is_at}
-use Rattle.kernel_spec.proofs.GivenLemmas.{given_end, given_ended, given_joined, length-reaped, tree_raised}
+use Rattle.kernel_spec.specs.Others.{LeavesOthers, LeavesProcesses, child_after, is_at}
+use Rattle.kernel_spec.proofs.GivenLemmas.{given_ended, given_joined, length-reaped, tree_raised}
 use Rattle.kernel_spec.proofs.TreeFacts.{live_ended, live_reaped, live_joined, live_new, room_below}
 use Rattle.kernel_spec.proofs.SignalFacts.{lowest_same, live_raised, raised_other, quiet_raised, quiet_ended, quiet_joined, inherits_none, quiet_changed}
 

@@ -1,15 +1,15 @@
 -- The children and the zombies of one process, after the steps of another.
-use Rattle.std.proofs.Common.{◌≡◌, ◌≢◌, ◌⊎◌, ℕ, zero, suc, ◌+◌, ◌≤◌, ◌<◌, ◌==◌, ◌&&◌, ◌||◌, Bool, true, false, cond, List, [], ◌∷◌, ◌++◌, length, map, slice_get, Option, Some, None, refl, ap, subst, sym, inl, inr, ◌∙◌, arith}
+use Rattle.std.proofs.Common.{◌≡◌, ◌≢◌, ◌⊎◌, ℕ, zero, suc, ◌+◌, ◌≤◌, ◌==◌, Bool, true, false, cond, List, [], ◌∷◌, ◌++◌, length, map, slice_get, Option, Some, None, refl, ap, sym, inl, inr, ◌∙◌, arith}
 use Rattle.std.specs.Option.{option_map, option_map_or}
 use Rattle.std.specs.List.{list_any, position_from}
 use Rattle.std.proofs.lemmas.Bool.{cases_Bool, cases_eq, or_cases, or_left, or_right, and_parts, and_from, and_left, and_right, eqb-true, ne_eqb, false≢true}
 use Rattle.std.proofs.lemmas.List.Folds.{list_any-append}
-use Rattle.std.proofs.lemmas.Option.{same_Some, none-some, slice_get_within}
+use Rattle.std.proofs.lemmas.Option.{same_Some, none-some}
 use Rattle.call_table.specs.declared.process.End.{End}
 use Rattle.proc_tree.specs.declared.process.State.{State}
 use Rattle.proc_tree.specs.declared.process.State.TheVariants.{Live, Zombie, Gone}
 use Rattle.proc_tree.specs.declared.process.Process.{Process}
-use Rattle.proc_tree.specs.Processes.{is_live, is_present, is_zombie, is_zombie_state, is_child_of, is_zombie_of, orphaned, parted_from, in_state, end_state, reaped_process, reaped_state}
+use Rattle.proc_tree.specs.Processes.{is_present, is_zombie, is_zombie_state, is_child_of, is_zombie_of, orphaned, parted_from, in_state, end_state, reaped_process, reaped_state}
 use Rattle.proc_tree.specs.Tree.{live_at, parent_of, parent_field, with_end, with_child, reaped, has_child_of, lowest_zombie}
 use Rattle.kernel_spec.specs.Pids.{at_pid}
 use Rattle.kernel_spec.proofs.PlaceLemmas.{changed_other, changed_here, at_map, at_push, at_last}
@@ -32,22 +32,22 @@ first_at : {A : Type 0} (test : A → Bool) (n : ℕ) (xs : List A) (c : ℕ) �
 first_at test n [] c h = absurd (none-some c h)
 first_at test n (x ∷ xs) c h = elim (cases_Bool (test x)) [
   | inl here ↦
-    let is : Some n ≡ Some c = ap (λ b. cond b (Some n) (position_from test (n + 1) xs)) (sym here) ∙ h in
-    let at : n ≡ c = same_Some n c is in (0, x, omega (arith, at), refl, here)
+      let is : Some n ≡ Some c = ap (λ b. cond b (Some n) (position_from test (n + 1) xs)) (sym here) ∙ h in
+      let at : n ≡ c = same_Some n c is in (0, x, omega (arith, at), refl, here)
   | inr not_here ↦
-    let is : position_from test (n + 1) xs ≡ Some c = ap (λ b. cond b (Some n) (position_from test (n + 1) xs)) (sym not_here) ∙ h in
-    let found = first_at test (n + 1) xs c is in
-    let at : c ≡ n + suc found.0 = omega (arith, found.2) in (suc found.0, found.1, at, found.3, found.4)
+      let is : position_from test (n + 1) xs ≡ Some c = ap (λ b. cond b (Some n) (position_from test (n + 1) xs)) (sym not_here) ∙ h in
+      let found = first_at test (n + 1) xs c is in
+      let at : c ≡ n + suc found.0 = omega (arith, found.2) in (suc found.0, found.1, at, found.3, found.4)
 ]
 
 none_at : {A : Type 0} (test : A → Bool) (n : ℕ) (xs : List A) → position_from test n xs ≡ None → (i : ℕ) (x : A) → slice_get xs i ≡ Some x → test x ≡ false
 none_at test n [] h i x e = absurd (none-some x e)
 none_at {A = A} test n (y ∷ xs) h i x e = elim (cases_Bool (test y)) [
   | inl here ↦
-    let none : Some n ≡ None = ap (λ b. cond b (Some n) (position_from test (n + 1) xs)) (sym here) ∙ h in absurd (none-some n (sym none))
+      let none : Some n ≡ None = ap (λ b. cond b (Some n) (position_from test (n + 1) xs)) (sym here) ∙ h in absurd (none-some n (sym none))
   | inr not_here ↦
-    let rest : position_from test (n + 1) xs ≡ None = ap (λ b. cond b (Some n) (position_from test (n + 1) xs)) (sym not_here) ∙ h in
-    by_place i not_here (λ j at. none_at test (n + 1) xs rest j x at) e
+      let rest : position_from test (n + 1) xs ≡ None = ap (λ b. cond b (Some n) (position_from test (n + 1) xs)) (sym not_here) ∙ h in
+      by_place i not_here (λ j at. none_at test (n + 1) xs rest j x at) e
 ]
   where
     by_place : (j : ℕ) → test y ≡ false → ((m : ℕ) → slice_get xs m ≡ Some x → test x ≡ false) → slice_get (y ∷ xs) j ≡ Some x → test x ≡ false
@@ -69,9 +69,11 @@ pub record NoZombie (tree new : List Process) (p : ℕ) : Type 0 where
 
 -- each child by its pid
 kept_children : (tree new : List Process) (p : ℕ) → ((i : ℕ) (x : Process) → slice_get tree i ≡ Some x → is_child_of p x ≡ true → (y : Process) × (slice_get new i ≡ Some y) × (is_child_of p y ≡ true)) → ChildrenStay tree new p
-kept_children tree new p kept = record { children = λ h.
-  let found = any_at (is_child_of p) tree h in
-  let after = kept found.0 found.1 found.2 found.3 in any_from (is_child_of p) new found.0 after.0 after.1 after.2 }
+kept_children tree new p kept = record {
+  children = λ h.
+      let found = any_at (is_child_of p) tree h in
+      let after = kept found.0 found.1 found.2 found.3 in any_from (is_child_of p) new found.0 after.0 after.1 after.2;
+}
 
 kept_zombies : (tree new : List Process) (p : ℕ) → ((i : ℕ) (y : Process) → slice_get new i ≡ Some y → ((x : Process) × (slice_get tree i ≡ Some x) × (is_zombie_of p y ≡ is_zombie_of p x)) ⊎ (is_zombie_of p y ≡ false)) → NoZombie tree new p
 kept_zombies tree new p kept = record { none = λ h. none_from (is_zombie_of p) 1 new (λ i y e. by_case i y (kept i y e) (none_at (is_zombie_of p) 1 tree h i)) }
@@ -100,10 +102,10 @@ joined_zombies tree parent p = kept_zombies tree (tree ++ new ∷ []) p kept
     kept : (i : ℕ) (y : Process) → slice_get (tree ++ record { parent = parent; state = Live } ∷ []) i ≡ Some y → ((x : Process) × (slice_get tree i ≡ Some x) × (is_zombie_of p y ≡ is_zombie_of p x)) ⊎ (is_zombie_of p y ≡ false)
     kept i y e = elim (cases_eq (suc i) (length tree + 1)) [
       | inl last ↦
-        let at : slice_get (tree ++ record { parent = parent; state = Live } ∷ []) i ≡ Some (record { parent = parent; state = Live })
-        = ap (at_pid (tree ++ record { parent = parent; state = Live } ∷ [])) last ∙ at_last tree (record { parent = parent; state = Live }) in
-        let is : record { parent = parent; state = Live } ≡ y = same_Some (record { parent = parent; state = Live }) y (sym at ∙ e) in
-        inr (ap (is_zombie_of p) (sym is) ∙ and_right (parent == p) false refl)
+          let at : slice_get (tree ++ record { parent = parent; state = Live } ∷ []) i ≡ Some (record { parent = parent; state = Live })
+          = ap (at_pid (tree ++ record { parent = parent; state = Live } ∷ [])) last ∙ at_last tree (record { parent = parent; state = Live }) in
+          let is : record { parent = parent; state = Live } ≡ y = same_Some (record { parent = parent; state = Live }) y (sym at ∙ e) in
+          inr (ap (is_zombie_of p) (sym is) ∙ and_right (parent == p) false refl)
       | inr before ↦ inl (y, sym (at_push tree (record { parent = parent; state = Live }) (suc i) before) ∙ e, refl)
     ]
 
@@ -119,8 +121,8 @@ reaped_is_other tree q c lowest i x at e =
 pub reaped_children : (tree : List Process) (p q c : ℕ) → p ≢ q → lowest_zombie tree q ≡ Some c → ChildrenStay tree (reaped tree c) p
 reaped_children tree p q c other lowest = kept_children tree (reaped tree c) p (λ i x e child. elim (cases_eq (suc i) c) [
   | inl here ↦
-    let parent : x.parent ≡ p = eqb-true x.parent p (and_parts (x.parent == p) (is_present x) child).0 in
-    absurd (other (sym parent ∙ reaped_is_other tree q c lowest i x here e))
+      let parent : x.parent ≡ p = eqb-true x.parent p (and_parts (x.parent == p) (is_present x) child).0 in
+      absurd (other (sym parent ∙ reaped_is_other tree q c lowest i x here e))
   | inr elsewhere ↦ (x, changed_other reaped_process tree c (suc i) elsewhere ∙ e, child)
 ])
 
@@ -163,14 +165,14 @@ ended_children tree p q e other live = kept_children tree (with_end tree q e) p 
         let stays : parted_from q x ≡ x = not_parted q x (λ own. other (sym parent ∙ own)) in
         elim (cases_eq (suc i) q) [
           | inl here ↦
-            let at_q : at_pid tree q ≡ Some x = ap (at_pid tree) (sym here) ∙ at in
-            let of_q : parent_of tree q ≡ p = ap (λ o. option_map_or parent_field o 0) at_q ∙ parent in
-            let lives : live_at tree (parent_of tree q) ≡ true = ap (live_at tree) of_q ∙ live in
-            let new : at_pid (with_end tree q e) q ≡ Some (in_state (Zombie e) x)
-            = at_ended tree q e x at_q ∙ ap (λ b. Some (in_state (end_state b e) (parted_from q x))) lives ∙ ap (λ z. Some (in_state (Zombie e) z)) stays in
-            (in_state (Zombie e) x, ap (at_pid (with_end tree q e)) here ∙ new, and_from (x.parent == p) true (and_parts (x.parent == p) (is_present x) child).0 refl)
+              let at_q : at_pid tree q ≡ Some x = ap (at_pid tree) (sym here) ∙ at in
+              let of_q : parent_of tree q ≡ p = ap (λ o. option_map_or parent_field o 0) at_q ∙ parent in
+              let lives : live_at tree (parent_of tree q) ≡ true = ap (live_at tree) of_q ∙ live in
+              let new : at_pid (with_end tree q e) q ≡ Some (in_state (Zombie e) x)
+              = at_ended tree q e x at_q ∙ ap (λ b. Some (in_state (end_state b e) (parted_from q x))) lives ∙ ap (λ z. Some (in_state (Zombie e) z)) stays in
+              (in_state (Zombie e) x, ap (at_pid (with_end tree q e)) here ∙ new, and_from (x.parent == p) true (and_parts (x.parent == p) (is_present x) child).0 refl)
           | inr elsewhere ↦
-            (x, at_parted tree q e (suc i) elsewhere ∙ ap (option_map (parted_from q)) at ∙ ap Some stays, child)
+              (x, at_parted tree q e (suc i) elsewhere ∙ ap (option_map (parted_from q)) at ∙ ap Some stays, child)
         ]
 
 orphan_no_zombie : (state : State) (parent : ℕ) → is_zombie (orphaned state parent) ≡ false
@@ -204,11 +206,11 @@ ended_zombies tree p q e from foreign = kept_zombies tree (with_end tree q e) p 
     parted : (x : Process) (i : ℕ) (y : Process) → slice_get tree i ≡ Some x → parted_from q x ≡ y → ((x : Process) × (slice_get tree i ≡ Some x) × (is_zombie_of p y ≡ is_zombie_of p x)) ⊎ (is_zombie_of p y ≡ false)
     parted x i y at is = elim (cases_Bool (x.parent == q)) [
       | inl child ↦
-        let orphan : y ≡ orphaned x.state x.parent = sym is ∙ ap (λ b. cond b (orphaned x.state x.parent) x) child in
-        inr (ap (is_zombie_of p) orphan ∙ and_right _ _ (orphan_no_zombie x.state x.parent))
+          let orphan : y ≡ orphaned x.state x.parent = sym is ∙ ap (λ b. cond b (orphaned x.state x.parent) x) child in
+          inr (ap (is_zombie_of p) orphan ∙ and_right _ _ (orphan_no_zombie x.state x.parent))
       | inr no_child ↦
-        let same : y ≡ x = sym is ∙ ap (λ b. cond b (orphaned x.state x.parent) x) no_child in
-        inl (x, at, ap (is_zombie_of p) same)
+          let same : y ≡ x = sym is ∙ ap (λ b. cond b (orphaned x.state x.parent) x) no_child in
+          inl (x, at, ap (is_zombie_of p) same)
     ]
 
     elsewhere : (i : ℕ) (o : Option Process) (y : Process) → slice_get tree i ≡ o → option_map (parted_from q) o ≡ Some y → ((x : Process) × (slice_get tree i ≡ Some x) × (is_zombie_of p y ≡ is_zombie_of p x)) ⊎ (is_zombie_of p y ≡ false)
@@ -218,6 +220,6 @@ ended_zombies tree p q e from foreign = kept_zombies tree (with_end tree q e) p 
     kept : (i : ℕ) (y : Process) → slice_get (with_end tree q e) i ≡ Some y → ((x : Process) × (slice_get tree i ≡ Some x) × (is_zombie_of p y ≡ is_zombie_of p x)) ⊎ (is_zombie_of p y ≡ false)
     kept i y at = elim (cases_eq (suc i) q) [
       | inl here ↦
-        inr (own (at_pid tree q) y refl (ap (option_map (ending tree q e)) (sym (at_map (parted_from q) tree q)) ∙ sym (changed_here (ending tree q e) (map (parted_from q) tree) q) ∙ ap (at_pid (with_end tree q e)) (sym here) ∙ at))
+          inr (own (at_pid tree q) y refl (ap (option_map (ending tree q e)) (sym (at_map (parted_from q) tree q)) ∙ sym (changed_here (ending tree q e) (map (parted_from q) tree) q) ∙ ap (at_pid (with_end tree q e)) (sym here) ∙ at))
       | inr other ↦ elsewhere i (slice_get tree i) y refl (sym (at_parted tree q e (suc i) other) ∙ at)
     ]

@@ -1,11 +1,11 @@
 -- How many pids were given, after each step on processes.
-use Rattle.std.proofs.Common.{◌≡◌, ℕ, zero, suc, ◌+◌, ◌==◌, ◌&&◌, ◌||◌, not, nat_le, Bool, true, false, cond, List, [], ◌∷◌, ◌++◌, length, map, slice_index, Option, Some, None, refl, ap, ◌∙◌, sym, arith}
+use Rattle.std.proofs.Common.{◌≡◌, ℕ, zero, suc, ◌+◌, ◌==◌, ◌&&◌, ◌||◌, not, nat_le, Bool, true, false, cond, List, length, map, slice_index, Option, Some, None, refl, ap, ◌∙◌, arith}
 use Rattle.std.proofs.lemmas.List.{length-set, length-map, length_push}
 use Rattle.call_table.specs.Calls.{is_signal_number}
 use Rattle.call_table.specs.declared.call.TheConstants.{EXIT, GETPPID, FORK, WAIT, OPEN, CLOSE, READ, WRITE, LSEEK, PIPE, DUP, UNLINK, KILL, SIGACT, SIGRETURN, SIGMASK, YIELD}
 use Rattle.call_table.specs.declared.error.TheConstants.{ECHILD}
 use Rattle.call_table.specs.declared.limit.TheConstants.{FILE_BYTES}
-use Rattle.call_table.specs.declared.signal.TheConstants.{SIGCHLD, SIGKILL, SIGPIPE}
+use Rattle.call_table.specs.declared.signal.TheConstants.{SIGKILL, SIGPIPE}
 use Rattle.call_table.specs.declared.process.End.{End}
 use Rattle.call_table.specs.declared.request.Request.{Request}
 use Rattle.fd_table.specs.Descriptors.{look_at, end_count}
@@ -14,8 +14,8 @@ use Rattle.fd_table.specs.declared.description.Target.{Target}
 use Rattle.fd_table.specs.declared.description.Target.TheVariants.{TermIn, TermOut, File, ReadEnd, WriteEnd}
 use Rattle.pipe_table.specs.Table.{bytes_at, room_at}
 use Rattle.proc_tree.specs.declared.process.Process.{Process}
-use Rattle.proc_tree.specs.Processes.{parted_from, reaped_process}
-use Rattle.proc_tree.specs.Tree.{live_at, zombie_at, parent_of, replaced, with_end as tree_end, reaped, next_pid_of, lowest_zombie, has_child_of}
+use Rattle.proc_tree.specs.Processes.{parted_from}
+use Rattle.proc_tree.specs.Tree.{live_at, zombie_at, replaced, with_end as tree_end, reaped, next_pid_of, lowest_zombie, has_child_of}
 use Rattle.signal_set.specs.Signals.{SignalState}
 use Rattle.kernel_spec.specs.Pids.{at_pid}
 use Rattle.kernel_spec.specs.Processes.{ProcessTable, ProcessDone, raised_at, ended_in, joined, kill_result, sigact_result}

@@ -1,24 +1,19 @@
 -- What an end, a raised signal, a taken one, a launch and input leave of the processes, and who has an end.
-use Rattle.std.proofs.Common.{◌≡◌, ◌≢◌, ℕ, zero, suc, ◌+◌, ◌<◌, ◌≤◌, ◌==◌, ◌&&◌, not, Bool, true, false, cond, List, [], ◌∷◌, ◌++◌, length, Option, Some, None, is_some, refl, ap, subst, sym, inl, inr, ◌∙◌, arith}
+use Rattle.std.proofs.Common.{◌≡◌, ◌≢◌, ℕ, ◌+◌, ◌<◌, ◌≤◌, Bool, true, false, cond, List, length, Option, Some, None, is_some, refl, ap, subst, inl, inr, ◌∙◌}
 use Rattle.std.specs.Option.{option_map, option_and_then}
-use Rattle.std.specs.List.{count_by, find}
-use Rattle.std.proofs.lemmas.Bool.{cases_Bool, eqb-false}
-use Rattle.std.proofs.lemmas.Option.{none-some, same_Some}
+use Rattle.std.proofs.lemmas.Bool.{cases_Bool}
 use Rattle.call_table.specs.declared.process.End.{End}
-use Rattle.call_table.specs.declared.process.End.TheVariants.{Exit, Signal}
+use Rattle.call_table.specs.declared.process.End.TheVariants.{Signal}
 use Rattle.call_table.specs.declared.request.Taken.{Taken}
 use Rattle.call_table.specs.declared.request.Taken.TheVariants.{Dies, Enters}
-use Rattle.call_table.specs.declared.signal.TheConstants.{SIGSEGV}
-use Rattle.proc_tree.specs.Processes.{is_live as is_live_process}
-use Rattle.proc_tree.specs.Tree.{live_at, next_pid_of}
+use Rattle.proc_tree.specs.Tree.{next_pid_of}
 use Rattle.signal_set.specs.declared.act.Act.{Act}
 use Rattle.signal_set.specs.declared.act.Act.TheVariants.{Default, Ignore, Handler}
 use Rattle.signal_set.specs.Acts.{taken_by}
-use Rattle.signal_set.specs.Signals.{SignalState, Took, no_signals, lowest_deliverable, act_of, took}
-use Rattle.kernel_spec.specs.Pids.{at_pid}
+use Rattle.signal_set.specs.Signals.{SignalState, Took, no_signals, lowest_deliverable, act_of}
 use Rattle.kernel_spec.specs.Io.{all_closed}
-use Rattle.kernel_spec.specs.Processes.{ProcessTable, ended_in, live_signals, heeding, heeds, lowest_at, with_left, taken_of, take_of, take_at, is_handled, raised_at, parent_raised}
-use Rattle.kernel_spec.specs.Kernel.{KernelState, Input, AfterTake, given, is_live, end_at, has_room, with_process, with_raised, with_end, raised_by_end, deliverable, take_result, after_took, after_taken}
+use Rattle.kernel_spec.specs.Processes.{ended_in, live_signals, heeding, heeds, with_left, taken_of, take_of, take_at, is_handled}
+use Rattle.kernel_spec.specs.Kernel.{KernelState, Input, AfterTake, given, is_live, end_at, has_room, with_process, with_raised, with_end, deliverable, take_result, after_took, after_taken}
 use Rattle.kernel_spec.specs.Others.{LeavesOthers, is_at, live_count}
 use Rattle.kernel_spec.proofs.GivenLemmas.{given_joined, tree_raised}
 use Rattle.kernel_spec.proofs.TreeFacts.{dead_ended, live_joined, live_new as live_newest, room_below, ended_one}
@@ -145,6 +140,7 @@ take_of_none k p room none = by_signals (live_signals k.processes p) none
     by_lowest : (state : SignalState) (o : Option ℕ) → o ≡ None → option_map (after_took k p) (option_map (taken_of room state) o) ≡ None
     by_lowest state None h = refl
     by_lowest state (Some s) h = absurd (cc)
+
     by_signals : (o : Option SignalState) → option_and_then lowest_deliverable o ≡ None → option_map (after_took k p) (option_and_then (take_of room) o) ≡ None
     by_signals None h = refl
     by_signals (Some state) h = by_lowest state (lowest_deliverable state) h
@@ -186,6 +182,7 @@ death_without_room k p after e = subst Death e (by_signals (live_signals k.proce
     by_lowest : (state : SignalState) (o : Option ℕ) → Death (option_map (after_took k p) (option_map (taken_of false state) o))
     by_lowest state None = tt
     by_lowest state (Some s) = ap is_death (taken_stays _ p (taken_of false state s).taken) ∙ no_room state s
+
     by_signals : (o : Option SignalState) → Death (option_map (after_took k p) (option_and_then (take_of false) o))
     by_signals None = tt
     by_signals (Some state) = by_lowest state (lowest_deliverable state)

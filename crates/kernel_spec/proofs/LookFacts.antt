@@ -1,21 +1,20 @@
 -- What the descriptors of one process stand for, after the calls of another on files, descriptors and pipes.
-use Rattle.std.proofs.Common.{◌≡◌, ◌≢◌, ℕ, zero, suc, ◌+◌, ◌-◌, ◌≤◌, ◌<◌, ◌==◌, ◌%◌, nat_eq, nat_lt, nat_le, not, ◌&&◌, Bool, true, false, cond, ℤ, pos, List, [], ◌∷◌, ◌++◌, length, slice_index, Option, Some, None, IsSome, refl, ap, subst, sym, inl, inr, ◌∙◌, arith}
-use Rattle.std.specs.Option.{option_map, option_and_then}
+use Rattle.std.proofs.Common.{◌≡◌, ◌≢◌, ℕ, zero, suc, ◌+◌, ◌≤◌, ◌==◌, ◌%◌, nat_lt, not, Bool, true, false, cond, ℤ, List, [], ◌∷◌, Option, Some, None, IsSome, refl, ap, subst, sym, inl, inr, ◌∙◌, arith}
+use Rattle.std.specs.Option.{option_map}
 use Rattle.std.proofs.lemmas.Bool.{cases_eq, eq-eqb, ne_eqb}
 use Rattle.std.proofs.lemmas.List.Sums.{sum_by-cons}
-use Rattle.id_table.specs.Places.{at_id, filled, lowest_free, put_under, changed}
+use Rattle.id_table.specs.Places.{at_id, lowest_free, put_under, changed}
 use Rattle.id_table.proofs.PlaceLemmas.{at_with_value_other}
 use Rattle.id_table.proofs.EditLemmas.{at_changed, at_changed_other, at_put_other, filled_kept}
 use Rattle.call_table.specs.declared.limit.TheConstants.{NAMED_FILES}
-use Rattle.call_table.specs.declared.error.TheConstants.{ENFILE}
 use Rattle.fs_memory.specs.Files.{id_called, named_count}
 use Rattle.fd_table.specs.declared.description.Look.{Look}
 use Rattle.fd_table.specs.declared.description.Target.{Target}
 use Rattle.fd_table.specs.declared.description.Target.TheVariants.{TermIn, TermOut, File, ReadEnd, WriteEnd}
-use Rattle.fd_table.specs.Descriptors.{FdTable, Descriptions, Processes, Slots, slots_of, slots_at, description_of, look_up, look_at, end_count, free_count, with_slot, lowest_fd, added, with_offset, seek_in, sought, duplicated, is_for, slot_count, drop_in, is_dropped, is_unheld, holder_count, closed}
+use Rattle.fd_table.specs.Descriptors.{FdTable, Processes, Slots, slots_of, slots_at, description_of, look_up, look_at, end_count, free_count, with_slot, lowest_fd, added, with_offset, seek_in, sought, duplicated, is_for, slot_count, drop_in, is_dropped, is_unheld, holder_count, closed}
 use Rattle.fd_table.proofs.EndLemmas.{closed_other, end_count_added, end_count_sought}
-use Rattle.pipe_table.specs.Table.{pipe_at, bytes_at, bytes_of, room_at, with_pipe as one_more, free_id}
-use Rattle.kernel_spec.specs.Io.{IoState, IoDone, IoGiven, unless, fails, has_flag, opened, truncated, with_new, open_found, open_absent, open_called, open_result, name_error, flags_error, room_error, close_at, close_result, with_close, closed_from, all_closed, descriptor_count, seek_to, seek_in as seek_target, seek_at, seek_result, place_of, file_len, dup_at, dup_result, unlink_called, unlink_result, pipe_to, pipe_unless, pipe_result, with_ends, ends_error}
+use Rattle.pipe_table.specs.Table.{pipe_at, bytes_at, room_at, with_pipe as one_more, free_id}
+use Rattle.kernel_spec.specs.Io.{IoState, IoDone, unless, has_flag, open_called, open_result, name_error, flags_error, room_error, close_at, close_result, closed_from, all_closed, descriptor_count, seek_to, seek_in as seek_target, seek_at, seek_result, place_of, file_len, dup_at, dup_result, unlink_called, unlink_result, pipe_to, pipe_unless, pipe_result, with_ends, ends_error}
 
 -- ---- what descriptors stand for
 
@@ -74,9 +73,9 @@ sought_looks table q fd offset p = looks_by table (sought table q fd offset) p r
     by_slot None id = keeps_same (at_id table.descriptions id)
     by_slot (Some at) id = elim (cases_eq id at) [
       | inl same ↦
-        let changed_one : at_id (changed table.descriptions at (with_offset offset)) id ≡ option_map (with_offset offset) (at_id table.descriptions id)
-        = subst (λ (k : ℕ). at_id (changed table.descriptions at (with_offset offset)) k ≡ option_map (with_offset offset) (at_id table.descriptions k)) (sym same) (at_changed table.descriptions at (with_offset offset)) in
-        subst (λ o. Keeps (at_id table.descriptions id) o) (sym changed_one) (moved offset (at_id table.descriptions id))
+          let changed_one : at_id (changed table.descriptions at (with_offset offset)) id ≡ option_map (with_offset offset) (at_id table.descriptions id)
+          = subst (λ (k : ℕ). at_id (changed table.descriptions at (with_offset offset)) k ≡ option_map (with_offset offset) (at_id table.descriptions k)) (sym same) (at_changed table.descriptions at (with_offset offset)) in
+          subst (λ o. Keeps (at_id table.descriptions id) o) (sym changed_one) (moved offset (at_id table.descriptions id))
       | inr ne ↦ subst (λ o. Keeps (at_id table.descriptions id) o) (sym (at_changed_other table.descriptions at (with_offset offset) id ne)) (keeps_same (at_id table.descriptions id))
     ]
 
@@ -125,12 +124,12 @@ closed_looks table q fd p other = looks_by table (closed table q fd) p slots kep
         by_slot None is = keeps_same (at_id table.descriptions id)
         by_slot (Some this) is = elim (cases_eq id this) [
           | inl same ↦
-            let stays : is_dropped this (with_slot table.processes q fd None) ≡ false = subst (λ (k : ℕ). is_dropped k (with_slot table.processes q fd None) ≡ false) same (not_dropped id (with_slot table.processes q fd None) held) in
-            rw stays (keeps_same (at_id table.descriptions id))
+              let stays : is_dropped this (with_slot table.processes q fd None) ≡ false = subst (λ (k : ℕ). is_dropped k (with_slot table.processes q fd None) ≡ false) same (not_dropped id (with_slot table.processes q fd None) held) in
+              rw stays (keeps_same (at_id table.descriptions id))
           | inr ne ↦
-            let closed_one : at_id (closed table q fd).descriptions id ≡ at_id table.descriptions id = closed_other table q fd id (λ here. let s : Some this ≡ Some id = sym is ∙ here in absurd (ne (cc))) in
-            let dropped : at_id (drop_in table.descriptions (Some this) (with_slot table.processes q fd None)) id ≡ at_id table.descriptions id = ap (λ slot. at_id (drop_in table.descriptions slot (with_slot table.processes q fd None)) id) (sym is) ∙ closed_one in
-            subst (λ o. Keeps (at_id table.descriptions id) o) (sym dropped) (keeps_same (at_id table.descriptions id))
+              let closed_one : at_id (closed table q fd).descriptions id ≡ at_id table.descriptions id = closed_other table q fd id (λ here. let s : Some this ≡ Some id = sym is ∙ here in absurd (ne (cc))) in
+              let dropped : at_id (drop_in table.descriptions (Some this) (with_slot table.processes q fd None)) id ≡ at_id table.descriptions id = ap (λ slot. at_id (drop_in table.descriptions slot (with_slot table.processes q fd None)) id) (sym is) ∙ closed_one in
+              subst (λ o. Keeps (at_id table.descriptions id) o) (sym dropped) (keeps_same (at_id table.descriptions id))
         ]
 
 -- the descriptors of a new process
@@ -275,12 +274,13 @@ pipe_call_still io q p other = by_error (ends_error io.fds q)
         record {
           looks = looks_on io.fds first (with_ends io.fds q pipe) p (added_looks io.fds q (ReadEnd pipe) 1 p other) (added_looks first q (WriteEnd pipe) 2 p other);
           ends = λ one.
-            let a = end_count_added one io.fds q (ReadEnd pipe) 1 in
-            let b = end_count_added one first q (WriteEnd pipe) 2 in
-            omega (arith, a, b);
+              let a = end_count_added one io.fds q (ReadEnd pipe) 1 in
+              let b = end_count_added one first q (WriteEnd pipe) 2 in
+              omega (arith, a, b);
           bytes = λ id. made_bytes io.pipes id;
           room = λ id here. made_room io.pipes id here;
         }
+
     by_error : (o : Option ℤ) → IsStill io (pipe_unless o io q).io p
     by_error None = by_free (free_id io.pipes)
     by_error (Some error) = stays io p

@@ -1,5 +1,5 @@
 -- Lists by pid.
-use Rattle.std.proofs.Common.{◌≡◌, ℕ, zero, suc, ◌-◌, ◌≤◌, List, length, slice_set, Option, Some, slice_get, refl, ap, sym, ◌∙◌, arith}
+use Rattle.std.proofs.Common.{◌≡◌, ℕ, zero, suc, ◌-◌, ◌≤◌, List, length, slice_set, slice_get, refl, ap, arith}
 use Rattle.std.proofs.lemmas.List.{length-set}
 use Rattle.kernel_spec.specs.Pids.{at_pid, set_pid}
 

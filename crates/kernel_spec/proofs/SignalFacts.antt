@@ -1,13 +1,13 @@
 -- Which signal each process can take, after each step on processes.
-use Rattle.std.proofs.Common.{◌≡◌, ◌≢◌, ℕ, zero, suc, ◌+◌, ◌==◌, not, Bool, true, false, cond, List, [], ◌∷◌, ◌++◌, length, map, set, Option, Some, None, slice_get, refl, ap, sym, inl, inr, ◌∙◌, arith}
+use Rattle.std.proofs.Common.{◌≡◌, ◌≢◌, ℕ, zero, suc, ◌+◌, ◌==◌, Bool, true, false, cond, List, [], ◌∷◌, ◌++◌, length, set, Option, Some, None, slice_get, refl, ap, sym, inl, inr, ◌∙◌}
 use Rattle.std.specs.Option.{option_map, option_and_then}
 use Rattle.std.proofs.lemmas.Bool.{cases_Bool, eqb-false, not-false}
 use Rattle.call_table.specs.declared.process.End.{End}
 use Rattle.call_table.specs.declared.signal.TheConstants.{SIGCHLD}
 use Rattle.signal_set.specs.Acts.{ignores}
-use Rattle.signal_set.specs.Signals.{SignalState, lowest_deliverable, raised, act_of, pending_with, no_signals, child_signals}
-use Rattle.proc_tree.specs.Tree.{live_at, parent_of, with_end}
-use Rattle.kernel_spec.specs.Pids.{at_pid, set_pid, replaced_pid, changed_pid}
+use Rattle.signal_set.specs.Signals.{SignalState, lowest_deliverable, raised, act_of}
+use Rattle.proc_tree.specs.Tree.{live_at, parent_of}
+use Rattle.kernel_spec.specs.Pids.{at_pid, replaced_pid, changed_pid}
 use Rattle.kernel_spec.specs.Processes.{ProcessTable, live_signals, heeds, heeding, with_signal, raised_at, lowest_at, parent_raised, ended_in, joined, with_left}
 use Rattle.kernel_spec.specs.Calls.{inherited}
 use Rattle.kernel_spec.specs.Others.{is_at}
@@ -63,8 +63,8 @@ pub quiet_raised : (p : ProcessTable) (target signal q : ℕ) → is_at (heeding
 quiet_raised p target signal q elsewhere =
     elim (cases_Bool (heeds (live_signals p target) signal)) [
       | inl counts ↦
-        let here : (target == q) ≡ false = ap (λ b. is_at (cond b (Some target) None) q) (sym counts) ∙ elsewhere in
-        raised_other p target signal q (λ e. eqb-false target q here (sym e))
+          let here : (target == q) ≡ false = ap (λ b. is_at (cond b (Some target) None) q) (sym counts) ∙ elsewhere in
+          raised_other p target signal q (λ e. eqb-false target q here (sym e))
       | inr ignored ↦ ap (λ table. lowest_at table q) (raised_ignored p target signal ignored)
     ]
 

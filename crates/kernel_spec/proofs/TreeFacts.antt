@@ -1,17 +1,17 @@
 -- Who lives, after each step on the tree of processes.
-use Rattle.std.proofs.Common.{◌≡◌, ◌≢◌, ℕ, zero, suc, ◌+◌, ◌<◌, ◌≤◌, ◌==◌, Bool, true, false, cond, List, [], ◌∷◌, ◌++◌, length, map, Option, Some, None, slice_get, refl, ap, sym, subst, inl, inr, ◌∙◌, arith}
+use Rattle.std.proofs.Common.{◌≡◌, ◌≢◌, ℕ, zero, suc, ◌+◌, ◌<◌, ◌≤◌, ◌==◌, Bool, true, false, cond, List, [], ◌∷◌, length, map, Option, Some, None, slice_get, refl, ap, sym, subst, inl, inr, ◌∙◌, arith}
 use Rattle.std.specs.Option.{option_map, option_map_or, option_and_then}
 use Rattle.std.specs.List.{count_by}
 use Rattle.std.proofs.lemmas.List.Sums.{sum_by-cons}
 use Rattle.std.proofs.lemmas.Bool.{and_parts, ltb-true, cases_Bool, cases_eq}
-use Rattle.std.proofs.lemmas.Option.{cond_some, none-some}
+use Rattle.std.proofs.lemmas.Option.{cond_some}
 use Rattle.call_table.specs.declared.process.End.{End}
 use Rattle.proc_tree.specs.declared.process.State.{State}
 use Rattle.proc_tree.specs.declared.process.State.TheVariants.{Live, Zombie, Gone}
 use Rattle.proc_tree.specs.declared.process.Process.{Process}
 use Rattle.proc_tree.specs.Processes.{is_live, is_live_state, is_present, is_present_state, orphaned, parted_from, in_state, end_state, end_of, end_of_state, reaped_state, reaped_process}
-use Rattle.proc_tree.specs.Tree.{live_at, ended_at, parent_of, with_end, with_child, reaped, present_count, next_pid_of, next_after, last_pid}
-use Rattle.kernel_spec.specs.Pids.{at_pid, changed_pid}
+use Rattle.proc_tree.specs.Tree.{live_at, ended_at, parent_of, with_end, with_child, reaped, present_count, next_pid_of}
+use Rattle.kernel_spec.specs.Pids.{at_pid}
 use Rattle.kernel_spec.proofs.PlaceLemmas.{changed_other, changed_here, at_map, at_push, at_last}
 
 -- whether the process in a place lives

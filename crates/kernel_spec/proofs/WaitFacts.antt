@@ -1,8 +1,8 @@
 -- What a process waits for stays the same under every step of another, and which steps may bring it.
-use Rattle.std.proofs.Common.{◌≡◌, ◌≢◌, ℕ, zero, suc, ◌+◌, ◌-◌, ◌≤◌, ◌<◌, ◌==◌, ◌&&◌, ◌||◌, not, nat_le, ◌%◌, ◌/◌, min, Bool, true, false, cond, ℤ, pos, List, [], ◌∷◌, ◌++◌, length, take, drop, slice_index, Option, Some, None, IsSome, is_some, is_none, refl, ap, subst, sym, inl, inr, ◌∙◌, arith}
-use Rattle.std.specs.Option.{option_map, option_map_or}
-use Rattle.std.proofs.lemmas.Bool.{cases_Bool, cases_eq, or_parts, or_from, eqb-true, eqb-false, eq-eqb, ne_eqb, not-false, not_from_true, false≢true}
-use Rattle.std.proofs.lemmas.Option.{none-some, same_Some}
+use Rattle.std.proofs.Common.{◌≡◌, ◌≢◌, ℕ, zero, suc, ◌≤◌, ◌==◌, ◌&&◌, ◌||◌, not, nat_le, ◌%◌, ◌/◌, min, Bool, true, false, cond, List, [], ◌∷◌, length, drop, slice_index, Option, Some, None, is_some, refl, ap, subst, sym, inl, inr, ◌∙◌, arith}
+use Rattle.std.specs.Option.{option_map}
+use Rattle.std.proofs.lemmas.Bool.{cases_Bool, or_parts, or_from, eqb-true, eqb-false, eq-eqb, ne_eqb, not-false, not_from_true, false≢true}
+use Rattle.std.proofs.lemmas.Option.{none-some}
 use Rattle.std.proofs.lemmas.List.{length-drop, length-append}
 use Rattle.call_table.specs.Calls.{is_signal_number}
 use Rattle.call_table.specs.declared.call.TheConstants.{EXIT, GETPPID, FORK, WAIT, OPEN, CLOSE, READ, WRITE, LSEEK, PIPE, DUP, UNLINK, KILL, SIGACT, SIGRETURN, SIGMASK, YIELD}
@@ -15,25 +15,23 @@ use Rattle.call_table.specs.declared.request.Taken.{Taken}
 use Rattle.call_table.specs.declared.request.Taken.TheVariants.{Dies, Enters}
 use Rattle.signal_set.specs.Signals.{Took}
 use Rattle.call_table.specs.declared.request.Request.{Request}
-use Rattle.call_table.specs.declared.request.Answer.{Answer}
 use Rattle.fd_table.specs.Descriptors.{FdTable, look_at, end_count, slots_at, sought}
 use Rattle.fd_table.specs.declared.description.Look.{Look}
 use Rattle.fd_table.specs.declared.description.Target.{Target}
 use Rattle.fd_table.specs.declared.description.Target.TheVariants.{TermIn, TermOut, File, ReadEnd, WriteEnd}
 use Rattle.fd_table.proofs.EndLemmas.{end_count_sought}
-use Rattle.pipe_table.specs.Table.{pipe_at, bytes_of, bytes_at, room_of as pipe_room, room_at, changed_at, with_more}
+use Rattle.pipe_table.specs.Table.{bytes_at, room_at, changed_at, with_more}
 use Rattle.proc_tree.specs.declared.process.Process.{Process}
 use Rattle.proc_tree.specs.Tree.{live_at, zombie_at, parent_of, has_child_of, lowest_zombie, next_pid_of}
-use Rattle.kernel_spec.specs.Pids.{at_pid}
-use Rattle.kernel_spec.specs.Io.{IoState, all_closed, close_result}
-use Rattle.kernel_spec.specs.Processes.{ProcessTable, ProcessDone, ended_in, kill_result, sigact_result, with_left, take_at}
+use Rattle.kernel_spec.specs.Io.{all_closed, close_result}
+use Rattle.kernel_spec.specs.Processes.{ProcessDone, ended_in, kill_result, sigact_result, with_left, take_at}
 use Rattle.kernel_spec.specs.Kernel.{KernelState, Input, Called, AfterTake, given, is_live, with_end, with_raised, answers, take_result, after_took, after_taken}
 use Rattle.kernel_spec.specs.Calls.{call_result, call_row, fork_to, with_fork, wait_for, without_zombie, read_input, untyped, typed, read_pipe, with_less, read_in, read_at, can_read, room_of, write_pipe, with_piped, piped_in, write_in, write_at, can_write}
-use Rattle.kernel_spec.specs.Waiting.{Waiting, ForChild, ForInput, ForBytes, ForRoom, HasPipe, has_come, read_awaits, write_awaits, read_look, write_look, awaited, awaited_row, still_waits, may_bring}
+use Rattle.kernel_spec.specs.Waiting.{Waiting, ForChild, ForInput, ForBytes, ForRoom, HasPipe, has_come, read_awaits, write_awaits, read_look, write_look, awaited, awaited_row, may_bring}
 use Rattle.kernel_spec.proofs.GivenLemmas.{tree_raised}
 use Rattle.kernel_spec.proofs.TreeFacts.{room_below}
 use Rattle.kernel_spec.proofs.BlockFacts.{by_number}
-use Rattle.kernel_spec.proofs.LookFacts.{Keeps, LooksStay, looks_same, looks_on, sought_looks, put_looks, closing_looks, close_call_looks, IsStill, stays, open_call_still, seek_call_still, dup_call_still, unlink_call_still, pipe_call_still}
+use Rattle.kernel_spec.proofs.LookFacts.{Keeps, LooksStay, looks_same, sought_looks, put_looks, closing_looks, close_call_looks, IsStill, stays, open_call_still, seek_call_still, dup_call_still, unlink_call_still, pipe_call_still}
 use Rattle.kernel_spec.proofs.ChildFacts.{ChildrenStay, NoZombie, children_same, zombies_same, joined_children, joined_zombies, reaped_children, reaped_zombies, ended_children, ended_zombies}
 
 -- ---- what is awaited
@@ -300,6 +298,7 @@ module _ (k : KernelState) (p q : ℕ) (other : p ≢ q) where
       from : (n : ℕ) → live_at k.processes.tree n ≡ true → 1 ≤ n
       from zero l = absurd (false≢true l)
       from (suc n) l = omega arith
+
       by_live : (b : Bool) → has_come ForChild (cond b (record k { io = all_closed k.io q; processes = ended_in k.processes q e }) k) p ≡ false
       by_live true = child_wait k (record k { io = all_closed k.io q; processes = ended_in k.processes q e }) p (ended_zombies k.processes.tree p q e (from p live) foreign) h
       by_live false = h
@@ -348,8 +347,8 @@ module _ (k : KernelState) (p q : ℕ) (other : p ≢ q) where
   row number this x y f g =
       elim (cases_Bool (number == this)) [
         | inl e ↦
-          let here : Brings number x = subst (λ n. Brings n x) (sym (eqb-true number this e)) f in
-          subst (λ b. Brings number (cond b x y)) (sym e) here
+            let here : Brings number x = subst (λ n. Brings n x) (sym (eqb-true number this e)) f in
+            subst (λ b. Brings number (cond b x y)) (sym e) here
         | inr e ↦ subst (λ b. Brings number (cond b x y)) (sym e) (g e)
       ]
 

@@ -21,7 +21,7 @@ use Rattle.signal_set.specs.Signals.{SignalState, no_signals, child_signals}
 use Rattle.kernel_spec.specs.Pids.{at_pid}
 use Rattle.kernel_spec.specs.Io.{IoState, IoGiven, open_result, close_result, seek_result, dup_result, unlink_result, pipe_result}
 use Rattle.kernel_spec.specs.Processes.{joined, masked, kill_result, sigact_result, sigmask_result, status_bytes}
-use Rattle.kernel_spec.specs.Kernel.{KernelState, Input, Called, given, end_at, with_raised, value_answer, answers, answers_io, answers_done, exited}
+use Rattle.kernel_spec.specs.Kernel.{KernelState, Input, Called, given, end_at, with_raised, answers, answers_io, answers_done, exited}
 
 -- ---- read
 

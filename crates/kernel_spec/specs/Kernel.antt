@@ -1,5 +1,5 @@
 -- The kernel: files, descriptors and pipes, the terminal, and the processes.
-use Rattle.std.specs.Prelude.{ℕ, ◌+◌, ◌%◌, List, [], ◌++◌, Option, Some, None, if◌then◌else◌, length, is_some, ℤ, pos, Bool, false, refl}
+use Rattle.std.specs.Prelude.{ℕ, ◌+◌, ◌%◌, List, [], ◌++◌, Option, None, if◌then◌else◌, length, is_some, ℤ, pos, Bool, false, refl}
 use Rattle.std.specs.Option.{option_map}
 use Rattle.std.specs.Coded.{Coded, code_by, coded×, coded_ℕ, coded_list, coded_option, coded_bool}
 use Rattle.call_table.specs.declared.request.Answer.{Answer}
@@ -19,7 +19,7 @@ use Rattle.signal_set.specs.contracts.act.Act as act_row
 use Rattle.signal_set.specs.declared.act.Act.{Act}
 use Rattle.signal_set.specs.Signals.{SignalState, Took, no_signals}
 use Rattle.kernel_spec.specs.Io.{IoState, IoDone, PipeTable, no_files, all_closed}
-use Rattle.kernel_spec.specs.Processes.{ProcessTable, ProcessDone, nobody, joined, raised_at, heeding, lowest_at, parent_raised, ended_in, take_at, with_left}
+use Rattle.kernel_spec.specs.Processes.{ProcessTable, ProcessDone, nobody, joined, raised_at, lowest_at, parent_raised, ended_in, take_at, with_left}
 
 -- what was typed and not read yet, and whether no more comes
 pub record Input : Type 0 where

@@ -1,5 +1,5 @@
 -- Processes: their tree, and the signals of each.
-use Rattle.std.specs.Prelude.{ℕ, ◌+◌, ◌*◌, ◌%◌, Bool, true, false, not, ◌&&◌, ◌||◌, ◌==◌, if◌then◌else◌, List, [], ◌∷◌, ◌++◌, length, Option, Some, None, ℤ, pos, slice_set, is_some}
+use Rattle.std.specs.Prelude.{ℕ, ◌+◌, ◌*◌, Bool, true, false, not, ◌&&◌, ◌||◌, ◌==◌, if◌then◌else◌, List, [], ◌∷◌, ◌++◌, length, Option, Some, None, ℤ, pos}
 use Rattle.std.specs.Option.{option_map, option_and_then}
 use Rattle.std.specs.Int.{to_le_bytes, w32}
 use Rattle.call_table.specs.Calls.{is_signal_number}
@@ -7,10 +7,9 @@ use Rattle.call_table.specs.declared.error.TheConstants.{ESRCH, EINVAL}
 use Rattle.call_table.specs.declared.signal.TheConstants.{SIGKILL, SIGSEGV, SIGCHLD}
 use Rattle.call_table.specs.declared.process.End.{End}
 use Rattle.call_table.specs.declared.process.End.TheVariants.{Exit, Signal}
-use Rattle.call_table.specs.declared.request.Taken.{Taken}
 use Rattle.call_table.specs.declared.request.Taken.TheVariants.{Dies}
 use Rattle.proc_tree.specs.declared.process.Process.{Process}
-use Rattle.proc_tree.specs.Tree.{live_at, zombie_at, ended_at, parent_of, with_child, with_end, next_pid_of}
+use Rattle.proc_tree.specs.Tree.{live_at, zombie_at, parent_of, with_child, with_end}
 use Rattle.signal_set.specs.declared.act.Act.{Act}
 use Rattle.signal_set.specs.declared.act.Act.TheVariants.{Default, Ignore, Handler}
 use Rattle.signal_set.specs.Acts.{ignores}

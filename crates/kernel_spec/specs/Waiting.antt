@@ -1,5 +1,5 @@
 -- What a call that blocks waits for, and when that has come.
-use Rattle.std.specs.Prelude.{ℕ, ◌==◌, ◌||◌, ◌&&◌, not, Bool, true, false, List, length, slice_index, Option, Some, None, IsSome, is_some, if◌then◌else◌}
+use Rattle.std.specs.Prelude.{ℕ, ◌==◌, ◌||◌, ◌&&◌, not, Bool, false, List, length, slice_index, Option, Some, None, IsSome, is_some, if◌then◌else◌}
 use Rattle.call_table.specs.declared.call.TheConstants.{EXIT, WAIT, READ, WRITE, CLOSE}
 use Rattle.call_table.specs.declared.request.Request.{Request}
 use Rattle.fd_table.specs.Descriptors.{look_at, end_count}

@@ -3,6 +3,7 @@ pub mod Faulting
 pub mod Users
 pub mod Signals
 pub mod Scripts
+pub mod Places
 pub mod Fitting
 pub mod Calls
 pub mod Sound

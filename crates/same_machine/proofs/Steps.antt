@@ -32,7 +32,8 @@ use Rattle.node_machine.specs.Machine.{Policy, machine, acted, serve_at, taken_a
 use Rattle.node_machine.proofs.Users.{call_number}
 use Rattle.node_machine.proofs.Fitting.{serve_is, child_is}
 use Rattle.same_machine.specs.Same.{seen_as, replies_of}
-use Rattle.same_machine.proofs.Lists.{set_at, push_at, reply_more, At, Past, place, user_there, text_there}
+use Rattle.node_machine.proofs.Places.{set_at, push_at, At, Past, place, user_there, text_there}
+use Rattle.same_machine.proofs.Lists.{reply_more}
 
 -- a user state for each pid
 abbrev pub Counted : OneState → Type 0

@@ -5,7 +5,7 @@ ghost use Rattle.user_spec.specs.Instruction.{ran};
 ghost use Rattle.user_spec.specs.User.{with_register};
 ghost use Rattle.user_ctx.specs.Stopping.{core};
 ghost use Rattle.user_ctx.specs.Windows.{IsWindow, IsClear, IsOneOf, AreReady};
-ghost use Rattle.user_ctx.specs.Blocks.{pc_after, loaded_width, stored_width, is_in_page, IsGone, Keeps};
+ghost use Rattle.user_ctx.specs.Blocks.{pc_after, IsGone, Keeps};
 
 use crate::op::{Op, Work, work_done};
 use crate::place::Destination;
@@ -13,7 +13,6 @@ use crate::step::{load, store};
 use crate::window::Window;
 use crate::windows::Windows;
 use page_set::Pages;
-use user_spec::effect::{Form, Width};
 
 /// A block has no more instructions than this.
 const MOST_IN_BLOCK: u32 = 1024;
@@ -67,45 +66,11 @@ fn place_in(target: u32, base: u32) -> Option<usize>
     }
 }
 
-/// How many bytes are loaded.
-#[inline(always)]
-fn loaded_width(form: Form) -> u32
-    ensures { result ≡ loaded_width form }
-{
-    match form {
-        Form::SignedByte => 1,
-        Form::SignedHalf => 2,
-        Form::Word => 4,
-        Form::Byte => 1,
-        Form::Half => 2,
-    }
-}
-
-/// How many bytes are stored.
-#[inline(always)]
-fn stored_width(width: Width) -> u32
-    ensures { result ≡ stored_width width }
-{
-    match width {
-        Width::One => 1,
-        Width::Two => 2,
-        Width::Four => 4,
-    }
-}
-
-/// Whether so many bytes from an address on lie in one page.
-#[inline(always)]
-fn is_in_page(addr: u32, width: u32) -> bool
-    requires { width ≤ 4 }
-    ensures { result ≡ is_in_page addr width }
-{
-    addr % 4096 + width <= 4096
-}
-
-/// One ready instruction, at a place of the page, where words of pages from `low` up to `end` are ready.
+/// One ready instruction, at a place of the page, where words of pages from `low` up to `end` are ready. Each loop has its
+/// own: LLVM takes it into a loop only where nothing else calls it.
 #[inline(always)]
 #[tactic(auto, using(crate::proofs::Stored::same_words))]
-fn step_ready(
+fn step_ready<const IS_SHORT: bool>(
     window: &Window,
     low: u32,
     end: u32,
@@ -131,35 +96,25 @@ fn step_ready(
             *place += 1;
             Gone::Next
         }
-        Work::Loads { rd, addr, form } => {
-            if !is_in_page(addr, loaded_width(form)) {
-                return Gone::Left;
+        Work::Loads { rd, addr, form } => match load(pages, addr, form) {
+            Ok(value) => {
+                set_destination(x, rd, value);
+                *place += 1;
+                Gone::Next
             }
-            match load(pages, addr, form) {
-                Ok(value) => {
-                    set_destination(x, rd, value);
-                    *place += 1;
+            Err(_) => Gone::Left,
+        },
+        Work::Stores { addr, value, width } => match store(pages, addr, value, width) {
+            Ok(()) => {
+                *place += 1;
+                if is_clear(addr, low, end) {
                     Gone::Next
+                } else {
+                    Gone::Wrote(addr)
                 }
-                Err(_) => Gone::Left,
             }
-        }
-        Work::Stores { addr, value, width } => {
-            if !is_in_page(addr, stored_width(width)) {
-                return Gone::Left;
-            }
-            match store(pages, addr, value, width) {
-                Ok(()) => {
-                    *place += 1;
-                    if is_clear(addr, low, end) {
-                        Gone::Next
-                    } else {
-                        Gone::Wrote(addr)
-                    }
-                }
-                Err(_) => Gone::Left,
-            }
-        }
+            Err(_) => Gone::Left,
+        },
         Work::Falls => {
             *place += 1;
             Gone::Next
@@ -256,7 +211,7 @@ fn run_long(
     let mut end = at + n as usize;
     loop {
         let here = at;
-        match step_ready(window, low, high, &mut at, x, pages) {
+        match step_ready::<false>(window, low, high, &mut at, x, pages) {
             Gone::Next => at = same_place(at),
             Gone::Jumped => {
                 let left = end - here - 1;
@@ -321,7 +276,7 @@ fn run_short(
         None => return (0, Gone::Left),
     };
     for i in 0..n {
-        match step_ready(window, windows.low, windows.end, &mut at, x, pages) {
+        match step_ready::<true>(window, windows.low, windows.end, &mut at, x, pages) {
             Gone::Next => at = same_place(at),
             Gone::Jumped => {}
             Gone::Away(to) => {

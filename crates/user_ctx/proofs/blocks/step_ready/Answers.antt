@@ -4,100 +4,100 @@ use Rattle.user_ctx.proofs.Stored.{same_words, clear_same, within_but}
 use Rattle.user_ctx.proofs.blocks.step_ready.Goals as goal
 
 pub returns-in-Sets-clause-place : goal.returns-in-Sets-clause-place
-returns-in-Sets-clause-place c = let lt = inside _ _ _ _ _ _ _ c.requires.window c.requires.place (sym c.work_done.ensures ∙ c.in-Sets.is) refl in omega (arith, lt)
+returns-in-Sets-clause-place o c = let lt = inside _ _ _ _ _ _ _ c.requires.window c.requires.place (sym c.work_done.ensures ∙ c.in-Sets.is) refl in omega (arith, lt)
 
 pub returns-in-Sets-clause-idle : goal.returns-in-Sets-clause-idle
-returns-in-Sets-clause-idle c = λ _. not_slow _ _ _ _ _ _ _ c.requires.window c.requires.place (sym c.work_done.ensures ∙ c.in-Sets.is) refl
+returns-in-Sets-clause-idle o c = λ _. not_slow _ _ _ _ _ _ _ c.requires.window c.requires.place (sym c.work_done.ensures ∙ c.in-Sets.is) refl
 
 pub returns-in-Sets-clause-gone : goal.returns-in-Sets-clause-gone
-returns-in-Sets-clause-gone c = sets _ _ _ _ _ _ _ _ c.set_destination.new.registers c.requires.window c.requires.place c.requires.zero (sym c.work_done.ensures ∙ c.in-Sets.is) c.set_destination.ensures.new
+returns-in-Sets-clause-gone o c = sets _ _ _ _ _ _ _ _ c.set_destination.new.registers c.requires.window c.requires.place c.requires.zero (sym c.work_done.ensures ∙ c.in-Sets.is) c.set_destination.ensures.new
 
 pub returns-in-Sets-clause-keeps : goal.returns-in-Sets-clause-keeps
-returns-in-Sets-clause-keeps c = same_words _ _ _ _ refl
+returns-in-Sets-clause-keeps o c = same_words _ _ _ _ refl
 
 pub returns-in-Ok-clause-place : goal.returns-in-Ok-clause-place
-returns-in-Ok-clause-place c = let lt = inside _ _ _ _ _ _ _ c.requires.window c.requires.place (sym c.work_done.ensures ∙ c.in-Loads.is) refl in omega (arith, lt)
+returns-in-Ok-clause-place o c = let lt = inside _ _ _ _ _ _ _ c.requires.window c.requires.place (sym c.work_done.ensures ∙ c.in-Loads.is) refl in omega (arith, lt)
 
 pub returns-in-Ok-clause-idle : goal.returns-in-Ok-clause-idle
-returns-in-Ok-clause-idle c = λ _. not_slow _ _ _ _ _ _ _ c.requires.window c.requires.place (sym c.work_done.ensures ∙ c.in-Loads.is) refl
+returns-in-Ok-clause-idle o c = λ _. not_slow _ _ _ _ _ _ _ c.requires.window c.requires.place (sym c.work_done.ensures ∙ c.in-Loads.is) refl
 
 pub returns-in-Ok-clause-gone : goal.returns-in-Ok-clause-gone
-returns-in-Ok-clause-gone c = loads _ _ _ _ _ _ _ _ _ _ c.set_destination-in-Ok.new.registers c.requires.window c.requires.place c.requires.zero (sym c.work_done.ensures ∙ c.in-Loads.is) c.in-Ok.ensures c.set_destination-in-Ok.ensures.new
+returns-in-Ok-clause-gone o c = loads _ _ _ _ _ _ _ _ _ _ c.set_destination-in-Ok.new.registers c.requires.window c.requires.place c.requires.zero (sym c.work_done.ensures ∙ c.in-Loads.is) c.in-Ok.ensures c.set_destination-in-Ok.ensures.new
 
 pub returns-in-Ok-clause-keeps : goal.returns-in-Ok-clause-keeps
-returns-in-Ok-clause-keeps c = same_words _ _ _ _ refl
+returns-in-Ok-clause-keeps o c = same_words _ _ _ _ refl
 
 pub returns-then-is_clear-clause-place : goal.returns-then-is_clear-clause-place
-returns-then-is_clear-clause-place c = let lt = inside _ _ _ _ _ _ _ c.requires.window c.requires.place (sym c.work_done.ensures ∙ c.in-Stores.is) refl in omega (arith, lt)
+returns-then-is_clear-clause-place o c = let lt = inside _ _ _ _ _ _ _ c.requires.window c.requires.place (sym c.work_done.ensures ∙ c.in-Stores.is) refl in omega (arith, lt)
 
 pub returns-then-is_clear-clause-idle : goal.returns-then-is_clear-clause-idle
-returns-then-is_clear-clause-idle c = λ _. not_slow _ _ _ _ _ _ _ c.requires.window c.requires.place (sym c.work_done.ensures ∙ c.in-Stores.is) refl
+returns-then-is_clear-clause-idle o c = λ _. not_slow _ _ _ _ _ _ _ c.requires.window c.requires.place (sym c.work_done.ensures ∙ c.in-Stores.is) refl
 
 pub returns-then-is_clear-clause-gone : goal.returns-then-is_clear-clause-gone
-returns-then-is_clear-clause-gone c = stores _ _ _ _ _ _ _ _ _ _ c.requires.window c.requires.place c.requires.zero (sym c.work_done.ensures ∙ c.in-Stores.is) c.in-Ok-store.ensures.is
+returns-then-is_clear-clause-gone o c = stores _ _ _ _ _ _ _ _ _ _ c.requires.window c.requires.place c.requires.zero (sym c.work_done.ensures ∙ c.in-Stores.is) c.in-Ok-store.ensures.is
 
 pub returns-then-is_clear-clause-keeps : goal.returns-then-is_clear-clause-keeps
-returns-then-is_clear-clause-keeps c = clear_same _ _ _ _ _ _ _ c.in-Ok-store.ensures.is (c.is_clear.ensures c.if-is_clear.true) (omega (arith, c.requires.end))
+returns-then-is_clear-clause-keeps o c = clear_same _ _ _ _ _ _ _ c.in-Ok-store.ensures.is (c.is_clear.ensures c.if-is_clear.true) (omega (arith, c.requires.end))
 
 pub returns-else-is_clear-clause-place : goal.returns-else-is_clear-clause-place
-returns-else-is_clear-clause-place c = let lt = inside _ _ _ _ _ _ _ c.requires.window c.requires.place (sym c.work_done.ensures ∙ c.in-Stores.is) refl in omega (arith, lt)
+returns-else-is_clear-clause-place o c = let lt = inside _ _ _ _ _ _ _ c.requires.window c.requires.place (sym c.work_done.ensures ∙ c.in-Stores.is) refl in omega (arith, lt)
 
 pub returns-else-is_clear-clause-idle : goal.returns-else-is_clear-clause-idle
-returns-else-is_clear-clause-idle c = λ _. not_slow _ _ _ _ _ _ _ c.requires.window c.requires.place (sym c.work_done.ensures ∙ c.in-Stores.is) refl
+returns-else-is_clear-clause-idle o c = λ _. not_slow _ _ _ _ _ _ _ c.requires.window c.requires.place (sym c.work_done.ensures ∙ c.in-Stores.is) refl
 
 pub returns-else-is_clear-clause-gone : goal.returns-else-is_clear-clause-gone
-returns-else-is_clear-clause-gone c = stores _ _ _ _ _ _ _ _ _ _ c.requires.window c.requires.place c.requires.zero (sym c.work_done.ensures ∙ c.in-Stores.is) c.in-Ok-store.ensures.is
+returns-else-is_clear-clause-gone o c = stores _ _ _ _ _ _ _ _ _ _ c.requires.window c.requires.place c.requires.zero (sym c.work_done.ensures ∙ c.in-Stores.is) c.in-Ok-store.ensures.is
 
 pub returns-else-is_clear-clause-keeps : goal.returns-else-is_clear-clause-keeps
-returns-else-is_clear-clause-keeps c = within_but _ _ _ _ _ _ _ c.in-Ok-store.ensures.is (omega arith) (omega (arith, c.requires.end))
+returns-else-is_clear-clause-keeps o c = within_but _ _ _ _ _ _ _ c.in-Ok-store.ensures.is (omega arith) (omega (arith, c.requires.end))
 
 pub returns-in-Falls-clause-place : goal.returns-in-Falls-clause-place
-returns-in-Falls-clause-place c = let lt = inside _ _ _ _ _ _ _ c.requires.window c.requires.place (sym c.work_done.ensures ∙ c.in-Falls.is) refl in omega (arith, lt)
+returns-in-Falls-clause-place o c = let lt = inside _ _ _ _ _ _ _ c.requires.window c.requires.place (sym c.work_done.ensures ∙ c.in-Falls.is) refl in omega (arith, lt)
 
 pub returns-in-Falls-clause-idle : goal.returns-in-Falls-clause-idle
-returns-in-Falls-clause-idle c = λ _. not_slow _ _ _ _ _ _ _ c.requires.window c.requires.place (sym c.work_done.ensures ∙ c.in-Falls.is) refl
+returns-in-Falls-clause-idle o c = λ _. not_slow _ _ _ _ _ _ _ c.requires.window c.requires.place (sym c.work_done.ensures ∙ c.in-Falls.is) refl
 
 pub returns-in-Falls-clause-gone : goal.returns-in-Falls-clause-gone
-returns-in-Falls-clause-gone c = falls _ _ _ _ _ _ c.requires.window c.requires.place c.requires.zero (sym c.work_done.ensures ∙ c.in-Falls.is)
+returns-in-Falls-clause-gone o c = falls _ _ _ _ _ _ c.requires.window c.requires.place c.requires.zero (sym c.work_done.ensures ∙ c.in-Falls.is)
 
 pub returns-in-Falls-clause-keeps : goal.returns-in-Falls-clause-keeps
-returns-in-Falls-clause-keeps c = same_words _ _ _ _ refl
+returns-in-Falls-clause-keeps o c = same_words _ _ _ _ refl
 
 pub returns-in-Goes-clause-idle : goal.returns-in-Goes-clause-idle
-returns-in-Goes-clause-idle c = λ _. not_slow _ _ _ _ _ _ _ c.requires.window c.requires.place (sym c.work_done.ensures ∙ c.in-Goes.is) refl
+returns-in-Goes-clause-idle o c = λ _. not_slow _ _ _ _ _ _ _ c.requires.window c.requires.place (sym c.work_done.ensures ∙ c.in-Goes.is) refl
 
 pub returns-in-Goes-clause-gone : goal.returns-in-Goes-clause-gone
-returns-in-Goes-clause-gone c = goes_to _ _ _ _ _ _ _ _ c.requires.window c.requires.place c.requires.zero (sym c.work_done.ensures ∙ c.in-Goes.is) c.index.ensures.value
+returns-in-Goes-clause-gone o c = goes_to _ _ _ _ _ _ _ _ c.requires.window c.requires.place c.requires.zero (sym c.work_done.ensures ∙ c.in-Goes.is) c.index.ensures.value
 
 pub returns-in-Goes-clause-keeps : goal.returns-in-Goes-clause-keeps
-returns-in-Goes-clause-keeps c = same_words _ _ _ _ refl
+returns-in-Goes-clause-keeps o c = same_words _ _ _ _ refl
 
 pub returns-in-Links-clause-idle : goal.returns-in-Links-clause-idle
-returns-in-Links-clause-idle c = λ _. not_slow _ _ _ _ _ _ _ c.requires.window c.requires.place (sym c.work_done.ensures ∙ c.in-Links.is) refl
+returns-in-Links-clause-idle o c = λ _. not_slow _ _ _ _ _ _ _ c.requires.window c.requires.place (sym c.work_done.ensures ∙ c.in-Links.is) refl
 
 pub returns-in-Links-clause-gone : goal.returns-in-Links-clause-gone
-returns-in-Links-clause-gone c = links _ _ _ _ _ _ _ _ c.set_destination-in-Links.new.registers _ c.requires.window c.requires.place c.requires.zero (sym c.work_done.ensures ∙ c.in-Links.is) c.set_destination-in-Links.ensures.new c.index-in-Links.ensures.value
+returns-in-Links-clause-gone o c = links _ _ _ _ _ _ _ _ c.set_destination-in-Links.new.registers _ c.requires.window c.requires.place c.requires.zero (sym c.work_done.ensures ∙ c.in-Links.is) c.set_destination-in-Links.ensures.new c.index-in-Links.ensures.value
 
 pub returns-in-Links-clause-keeps : goal.returns-in-Links-clause-keeps
-returns-in-Links-clause-keeps c = same_words _ _ _ _ refl
+returns-in-Links-clause-keeps o c = same_words _ _ _ _ refl
 
 pub returns-in-Some-clause-gone : goal.returns-in-Some-clause-gone
-returns-in-Some-clause-gone c = leaps _ _ _ _ _ _ _ _ c.requires.window c.requires.place c.requires.zero (sym c.work_done.ensures ∙ c.in-Leaps.is) (omega (arith, c.if-target-ne0.false)) c.in-Some.ensures.1
+returns-in-Some-clause-gone o c = leaps _ _ _ _ _ _ _ _ c.requires.window c.requires.place c.requires.zero (sym c.work_done.ensures ∙ c.in-Leaps.is) (omega (arith, c.if-target-ne0.false)) c.in-Some.ensures.1
 
 pub returns-in-None-clause-idle : goal.returns-in-None-clause-idle
-returns-in-None-clause-idle c = λ _. not_slow _ _ _ _ _ _ _ c.requires.window c.requires.place (sym c.work_done.ensures ∙ c.in-Leaps.is) refl
+returns-in-None-clause-idle o c = λ _. not_slow _ _ _ _ _ _ _ c.requires.window c.requires.place (sym c.work_done.ensures ∙ c.in-Leaps.is) refl
 
 pub returns-in-None-clause-gone : goal.returns-in-None-clause-gone
-returns-in-None-clause-gone c = leaps _ _ _ _ _ _ _ _ c.requires.window c.requires.place c.requires.zero (sym c.work_done.ensures ∙ c.in-Leaps.is) (omega (arith, c.if-target-ne0.false)) refl
+returns-in-None-clause-gone o c = leaps _ _ _ _ _ _ _ _ c.requires.window c.requires.place c.requires.zero (sym c.work_done.ensures ∙ c.in-Leaps.is) (omega (arith, c.if-target-ne0.false)) refl
 
 pub returns-in-Some-place_in-clause-idle : goal.returns-in-Some-place_in-clause-idle
-returns-in-Some-place_in-clause-idle c = λ _. not_slow _ _ _ _ _ _ _ c.requires.window c.requires.place (sym c.work_done.ensures ∙ c.in-LeapsFrom.is) refl
+returns-in-Some-place_in-clause-idle o c = λ _. not_slow _ _ _ _ _ _ _ c.requires.window c.requires.place (sym c.work_done.ensures ∙ c.in-LeapsFrom.is) refl
 
 pub returns-in-Some-place_in-clause-gone : goal.returns-in-Some-place_in-clause-gone
-returns-in-Some-place_in-clause-gone c = leaps_from _ _ _ _ _ _ _ _ c.set_destination-in-LeapsFrom.new.registers _ c.requires.window c.requires.place c.requires.zero (sym c.work_done.ensures ∙ c.in-LeapsFrom.is) (omega (arith, c.if-target-ne0-2.false)) c.set_destination-in-LeapsFrom.ensures.new c.in-Some-place_in.ensures.1
+returns-in-Some-place_in-clause-gone o c = leaps_from _ _ _ _ _ _ _ _ c.set_destination-in-LeapsFrom.new.registers _ c.requires.window c.requires.place c.requires.zero (sym c.work_done.ensures ∙ c.in-LeapsFrom.is) (omega (arith, c.if-target-ne0-2.false)) c.set_destination-in-LeapsFrom.ensures.new c.in-Some-place_in.ensures.1
 
 pub returns-in-None-place_in-clause-idle : goal.returns-in-None-place_in-clause-idle
-returns-in-None-place_in-clause-idle c = λ _. not_slow _ _ _ _ _ _ _ c.requires.window c.requires.place (sym c.work_done.ensures ∙ c.in-LeapsFrom.is) refl
+returns-in-None-place_in-clause-idle o c = λ _. not_slow _ _ _ _ _ _ _ c.requires.window c.requires.place (sym c.work_done.ensures ∙ c.in-LeapsFrom.is) refl
 
 pub returns-in-None-place_in-clause-gone : goal.returns-in-None-place_in-clause-gone
-returns-in-None-place_in-clause-gone c = leaps_from _ _ _ _ _ _ _ _ c.set_destination-in-LeapsFrom.new.registers _ c.requires.window c.requires.place c.requires.zero (sym c.work_done.ensures ∙ c.in-LeapsFrom.is) (omega (arith, c.if-target-ne0-2.false)) c.set_destination-in-LeapsFrom.ensures.new refl
+returns-in-None-place_in-clause-gone o c = leaps_from _ _ _ _ _ _ _ _ c.set_destination-in-LeapsFrom.new.registers _ c.requires.window c.requires.place c.requires.zero (sym c.work_done.ensures ∙ c.in-LeapsFrom.is) (omega (arith, c.if-target-ne0-2.false)) c.set_destination-in-LeapsFrom.ensures.new refl
