@@ -8,7 +8,7 @@ use call_table::NoMemory;
 use node_links::Carrier;
 
 /// The carriers of two nodes towards each other meet, that of the lower number first.
-fn meet_two<C: Carrier>(seats: &mut [Seat<C>], a: u8, b: u8) -> Result<bool, NoMemory>
+fn meet_two<N, C: Carrier>(seats: &mut [Seat<N, C>], a: u8, b: u8) -> Result<bool, NoMemory>
     requires order { a < b }
     requires within { b < length seats.old }
     requires linked { AreLinked C.pair seats.old }
@@ -20,7 +20,7 @@ fn meet_two<C: Carrier>(seats: &mut [Seat<C>], a: u8, b: u8) -> Result<bool, NoM
 }
 
 /// The carrier of a node towards itself, if it has one, meets itself.
-fn meet_one<C: Carrier>(seats: &mut [Seat<C>], a: u8) -> Result<bool, NoMemory>
+fn meet_one<N, C: Carrier>(seats: &mut [Seat<N, C>], a: u8) -> Result<bool, NoMemory>
     requires within { a < length seats.old }
     requires linked { AreLinked C.pair seats.old }
     ensures { IfOk result (λ none. Met C.puts C.gives C.pair none a a seats.old seats.new) }
@@ -30,7 +30,7 @@ fn meet_one<C: Carrier>(seats: &mut [Seat<C>], a: u8) -> Result<bool, NoMemory>
 }
 
 /// The carriers of any two nodes, or of one towards itself, meet.
-fn meet_any<C: Carrier>(seats: &mut [Seat<C>], a: u8, b: u8) -> Result<bool, NoMemory>
+fn meet_any<N, C: Carrier>(seats: &mut [Seat<N, C>], a: u8, b: u8) -> Result<bool, NoMemory>
     requires a { a < length seats.old }
     requires b { b < length seats.old }
     requires linked { AreLinked C.pair seats.old }
@@ -56,7 +56,7 @@ fn and(one: bool, other: bool) -> bool
 }
 
 /// The carriers of a node and of each other one meet. True exactly where nothing lies on their links.
-pub fn meet_row<C: Carrier>(seats: &mut [Seat<C>], a: u8, nodes: u8) -> Result<bool, NoMemory>
+pub fn meet_row<N, C: Carrier>(seats: &mut [Seat<N, C>], a: u8, nodes: u8) -> Result<bool, NoMemory>
     requires a { a < length seats.old }
     requires nodes { nodes ≤ length seats.old }
     requires linked { AreLinked C.pair seats.old }
@@ -71,7 +71,7 @@ pub fn meet_row<C: Carrier>(seats: &mut [Seat<C>], a: u8, nodes: u8) -> Result<b
 }
 
 /// All carriers meet. True exactly where nothing lies on any link.
-pub fn meet_all<C: Carrier>(seats: &mut [Seat<C>], nodes: u8) -> Result<bool, NoMemory>
+pub fn meet_all<N, C: Carrier>(seats: &mut [Seat<N, C>], nodes: u8) -> Result<bool, NoMemory>
     requires nodes { nodes ≤ length seats.old }
     requires linked { AreLinked C.pair seats.old }
     ensures { IfOk result (λ none. AllMet C.puts C.gives C.pair none nodes nodes seats.old seats.new) }

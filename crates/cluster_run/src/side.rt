@@ -42,7 +42,11 @@ pub fn hand<C: Carrier>(side: &mut Side<C>, letter: Letter) -> Option<Letter>
 }
 
 /// The next letter of the link at a place, which comes from a node.
-fn take_at<C: Carrier>(side: &mut Side<C>, at: usize, source: u8) -> Result<Option<Letter>, NoMemory>
+fn take_at<C: Carrier>(
+    side: &mut Side<C>,
+    at: usize,
+    source: u8,
+) -> Result<Option<Letter>, NoMemory>
     requires { IsPlace side.old source at }
     ensures { IfOk result (λ came. Looked C.puts C.gives C.pair source came side.old side.new) }
 {
