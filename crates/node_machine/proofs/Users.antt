@@ -245,12 +245,12 @@ last_of false x y e = refl
 need_kept : (number : ℕ) (args : List ℕ) (sp : ℕ) → (number == SIGRETURN) ≡ false → need_of number args sp ≡ need_of number args 0
 need_kept number args sp e =
     ap (λ (o : Option Need).
-      cond (number == WAIT) (need_of_wait (slice_index args 0)) (
-      cond (number == OPEN) (need_of_name (slice_index args 0) (slice_index args 1)) (
-      cond (number == READ) (need_of_read (slice_index args 1) (slice_index args 2)) (
-      cond (number == WRITE) (need_of_write (slice_index args 1) (slice_index args 2)) (
-      cond (number == PIPE) (need_of_pipe (slice_index args 0)) (
-      cond (number == UNLINK) (need_of_name (slice_index args 0) (slice_index args 1)) o))))))
+    cond (number == WAIT) (need_of_wait (slice_index args 0)) (
+    cond (number == OPEN) (need_of_name (slice_index args 0) (slice_index args 1)) (
+    cond (number == READ) (need_of_read (slice_index args 1) (slice_index args 2)) (
+    cond (number == WRITE) (need_of_write (slice_index args 1) (slice_index args 2)) (
+    cond (number == PIPE) (need_of_pipe (slice_index args 0)) (
+    cond (number == UNLINK) (need_of_name (slice_index args 0) (slice_index args 1)) o))))))
     (last_of (number == SIGRETURN) (need_of_return sp) (need_of_return 0) e)
 
 args_at : (b : Bool) (x y : List ℕ) → b ≡ false → cond b x y ≡ y
