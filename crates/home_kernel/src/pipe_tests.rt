@@ -1,5 +1,8 @@
 // Worked calls on pipes.
-use crate::worked::Call::{By, Close, Deliverable, Dup, Exit, Fork, Getppid, Open, Pipe, Raised, Read, Seek, Sigact, Take, Write};
+use crate::worked::Call::{
+    By, Close, Deliverable, Dup, Exit, Fork, Getppid, Open, Pipe, Raised, Read, Seek, Sigact, Take,
+    Write,
+};
 use crate::worked::{BLOCKS, Call, NONE, SIGNAL, check_first};
 use std::test::Fail;
 

@@ -1,6 +1,9 @@
 // Worked calls on processes: their limits, their ends, and waiting for them.
-use crate::worked::Call::{By, Dup, Ended, Exit, Fall, Fork, Getppid, Kill, Launch, Open, Raised, Read, Unlink, Wait, Write, Yield};
-use crate::worked::{BLOCKS, Call, Caller, NONE, NO_CALL, SIGNAL, check, check_first, files_are};
+use crate::worked::Call::{
+    By, Dup, Ended, Exit, Fall, Fork, Getppid, Kill, Launch, Open, Raised, Read, Unlink, Wait,
+    Write, Yield,
+};
+use crate::worked::{BLOCKS, Call, Caller, NO_CALL, NONE, SIGNAL, check, check_first, files_are};
 use std::process::Abort;
 use std::test::Fail;
 

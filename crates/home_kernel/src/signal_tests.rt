@@ -1,5 +1,7 @@
 // Worked calls on signals.
-use crate::worked::Call::{By, Deliverable, Ended, Fork, Kill, Raise, Raised, Sigact, Sigmask, Sigreturn, Take, Wait};
+use crate::worked::Call::{
+    By, Deliverable, Ended, Fork, Kill, Raise, Raised, Sigact, Sigmask, Sigreturn, Take, Wait,
+};
 use crate::worked::{Call, ENTERS, NONE, SIGNAL, check_first};
 use std::test::Fail;
 

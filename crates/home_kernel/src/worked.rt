@@ -272,7 +272,11 @@ pub(crate) fn check_first(rt: &impl Abort, alloc: Global, calls: Calls) -> Resul
 }
 
 /// These are the named files, in their order.
-pub(crate) fn files_are(rt: &impl Abort, caller: &Caller, want: &[(&[u8], &[u8])]) -> Result<(), Fail> {
+pub(crate) fn files_are(
+    rt: &impl Abort,
+    caller: &Caller,
+    want: &[(&[u8], &[u8])],
+) -> Result<(), Fail> {
     let list = caller.kernel.named_files()?;
     assert_eq!(rt; list.len(), want.len());
     for (file, (name, bytes)) in list.as_slice().iter().zip(want) {
