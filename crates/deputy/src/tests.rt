@@ -160,7 +160,7 @@ fn silent(pid: u32, way: Way, number: Option<u32>, taken: Option<u8>, end: Optio
 }
 
 /// What is to happen where something was served.
-fn served(is: Is) -> Option<What> {
+fn served_event(is: Is) -> Option<What> {
     let one = match is {
         Is::Did(pid, number, value) => done(pid, number, value, None, None),
         Is::Took(pid, number, value, signal) => done(pid, number, value, Some(signal), None),
@@ -214,7 +214,7 @@ fn moved(is: Is) -> Option<What> {
                 line: LINE,
             });
         }
-        _ => return served(is),
+        _ => return served_event(is),
     };
     Some(What::Command {
         line: LINE,
@@ -488,7 +488,7 @@ const POKES: [Row; 11] = [
 
 /// A fork's child is believed where its parent called; a call and a death poke one process each, the lower pid first.
 #[test]
-fn pokes(rt: HostRuntime) -> Result<(), Fail> {
+fn who_is_poked(rt: HostRuntime) -> Result<(), Fail> {
     let alloc = rt.alloc();
     let mut home = home(&rt, alloc, 2)?;
     check(&rt, &mut home, alloc, &POKES)?;
