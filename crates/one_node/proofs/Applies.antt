@@ -1,9 +1,8 @@
 -- What the calls on the system leave, as steps of the machine.
-use Rattle.std.proofs.Common.{◌≡◌, ℕ, ◌+◌, ◌-◌, ◌≤◌, List, [], ◌∷◌, ◌++◌, length, cond, ◌&&◌, slice_get, slice_set, refl, ap, ◌∙◌, sym, subst, Option, Some, None, Bool, true, false, is_none, is_some}
+use Rattle.std.proofs.Common.{◌≡◌, ℕ, ◌-◌, ◌≤◌, List, [], ◌∷◌, ◌++◌, length, cond, ◌&&◌, slice_get, slice_set, refl, ap, ◌∙◌, sym, subst, Option, Some, None, Bool, true, false, is_none, is_some}
 use Rattle.std.specs.Option.{option_map, option_and_then}
 use Rattle.std.proofs.lemmas.List.{append-nil}
 use Rattle.std.proofs.lemmas.Option.{none-some}
-use Rattle.call_table.specs.Calls.{is_signal_number}
 use Rattle.call_table.specs.declared.error.TheConstants.{EINTR}
 use Rattle.call_table.specs.declared.process.End.TheVariants as ends
 use Rattle.call_table.specs.declared.process.Reply3.{Reply3}
@@ -11,14 +10,14 @@ use Rattle.call_table.specs.declared.request.Request.{Request}
 use Rattle.call_table.specs.declared.request.Answer.{Answer}
 use Rattle.call_table.specs.declared.request.Taken.{Taken}
 use Rattle.user_spec.specs.User.{UserState}
-use Rattle.user_spec.specs.Request.{call_request, returned}
+use Rattle.user_spec.specs.Request.{returned}
 use Rattle.user_spec.specs.Advance.{Went, Done, AtCall, Faults, advance}
 use Rattle.kernel_spec.specs.Pids.{at_pid, set_pid}
-use Rattle.kernel_spec.specs.Kernel.{KernelState, Called, AfterTake, given, is_live, with_end, with_raised, value_answer, deliverable, take_result, raised_by_end}
+use Rattle.kernel_spec.specs.Kernel.{KernelState, Called, given, is_live, with_end, value_answer, deliverable, take_result, raised_by_end}
 use Rattle.kernel_spec.specs.Calls.{call_result, broken}
 use Rattle.user_ctx.specs.Calling.{AsksCall}
 use Rattle.home_kernel.specs.Serving.{IsLive}
-use Rattle.one_node.specs.Machine.{MachineState, live_user, asked_by, asked_of, reply_of, children, with_answer, done_of, done_at, blocks, broken_of, broken_at, user_taking, with_taken, taken_of, has_room_at, fault_of, with_fall, fallen, value_in, value_gained, blocked_at, Moves}
+use Rattle.one_node.specs.Machine.{MachineState, live_user, asked_by, asked_of, reply_of, children, with_answer, done_of, done_at, blocks, broken_of, broken_at, user_taking, with_taken, taken_of, has_room_at, fault_of, with_fall, fallen, value_in, value_gained, Moves}
 use Rattle.one_node.specs.Going.{copied_for, HasChild, child_in}
 use Rattle.one_node.specs.Applying.{raised_in_call, raised_by_asked, raised_by_call, raised_in_take, raised_by_taken, raised_by_take, AppliedAs}
 use Rattle.one_node.specs.declared.home.Applied.{Applied}

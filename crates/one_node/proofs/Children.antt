@@ -1,6 +1,5 @@
 -- A call makes a child exactly where it is a fork that answers so.
-use Rattle.std.proofs.Common.{◌≡◌, ℕ, zero, suc, ◌+◌, ◌==◌, List, [], ◌∷◌, length, slice_index, Option, Some, None, Bool, true, false, cond, refl, ap, ◌∙◌, sym, subst, arith, nat_le, is_some}
-use Rattle.std.proofs.lemmas.Bool.Decides.{nat_tests}
+use Rattle.std.proofs.Common.{◌≡◌, ℕ, ◌==◌, List, length, slice_index, Option, Some, None, Bool, true, false, cond, refl, subst, arith, nat_le}
 use Rattle.call_table.specs.declared.call.TheConstants.{EXIT, GETPPID, FORK, WAIT, OPEN, CLOSE, READ, WRITE, LSEEK, PIPE, DUP, UNLINK, KILL, SIGACT, SIGRETURN, SIGMASK, YIELD}
 use Rattle.call_table.specs.declared.error.TheConstants.{ECHILD}
 use Rattle.call_table.specs.declared.limit.TheConstants.{FILE_BYTES}
@@ -18,7 +17,7 @@ use Rattle.user_spec.specs.Request.{forked}
 use Rattle.kernel_spec.specs.Kernel.{KernelState, Called, answers}
 use Rattle.kernel_spec.specs.Calls.{call_result, call_row, read_in, read_at, can_read, write_in, write_at, can_write, room_of, wait_for, children_of}
 use Rattle.one_node.specs.Machine.{children}
-use Rattle.one_node.specs.Going.{copied_for, HasChild, child_in, listed, with_pid}
+use Rattle.one_node.specs.Going.{copied_for, HasChild, child_in}
 
 abbrev NoChild : Option Called → Type 0
 NoChild None = Unit {0}

@@ -1,5 +1,5 @@
 -- The fault of a process, by how its next step comes out.
-use Rattle.std.proofs.Common.{◌≡◌, ◌≢◌, ℕ, refl, ap, ◌∙◌, sym, Option, Some, None, Bool, true, false, cond}
+use Rattle.std.proofs.Common.{◌≡◌, ◌≢◌, ℕ, refl, ap, ◌∙◌, sym, Some, None, Bool, true, false, cond}
 use Rattle.std.proofs.lemmas.Option.{none-some}
 use Rattle.user_spec.specs.User.{UserState}
 use Rattle.user_spec.specs.Advance.{Went, Done, AtCall, Faults, advance, grows, stepped, Stepped, stepped_as}

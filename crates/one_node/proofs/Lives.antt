@@ -1,5 +1,5 @@
 -- Processes by number, and what the calls on the system leave.
-use Rattle.std.proofs.Common.{◌≡◌, ◌≢◌, ℕ, zero, suc, ◌+◌, ◌-◌, ◌≤◌, ◌<◌, List, [], ◌∷◌, ◌++◌, length, cond, slice_get, slice_set, refl, ap, ◌∙◌, sym, subst, arith, Option, Some, None, Bool, true, false}
+use Rattle.std.proofs.Common.{◌≡◌, ℕ, zero, suc, ◌+◌, ◌-◌, ◌≤◌, ◌<◌, List, [], ◌∷◌, ◌++◌, length, cond, slice_get, slice_set, refl, ap, ◌∙◌, sym, arith, Option, Some, None, true, false}
 use Rattle.std.specs.Option.{option_map, option_map_or}
 use Rattle.std.proofs.lemmas.Option.{none-some}
 use Rattle.call_table.specs.declared.process.Reply3.{Reply3}

@@ -1,5 +1,5 @@
 -- A signal that is taken: a handler is entered only with room for its frame, and no pid is given.
-use Rattle.std.proofs.Common.{◌≡◌, ℕ, refl, ap, ◌∙◌, sym, subst, Option, Some, None, Bool, true, false, not, ◌&&◌, cond}
+use Rattle.std.proofs.Common.{◌≡◌, ℕ, refl, ◌∙◌, sym, subst, Option, Some, None, Bool, true, false, not, ◌&&◌, cond}
 use Rattle.std.specs.Option.{option_map, option_and_then}
 use Rattle.std.proofs.lemmas.Option.{none-some}
 use Rattle.call_table.specs.declared.process.End.TheVariants.{Signal}

@@ -1,5 +1,5 @@
 -- What the calls on the system leave: what is answered, beside the state after it.
-use Rattle.std.specs.Prelude.{◌≡◌, ℕ, ◌==◌, ◌++◌, if◌then◌else◌, List, [], ◌∷◌, Option, Some, None, slice_set, unwrap_or, is_some, true}
+use Rattle.std.specs.Prelude.{◌≡◌, ℕ, ◌==◌, if◌then◌else◌, List, [], ◌∷◌, Option, Some, None, slice_set, unwrap_or, is_some, true}
 use Rattle.std.specs.Option.{option_map}
 use Rattle.call_table.specs.declared.call.TheConstants.{FORK}
 use Rattle.call_table.specs.declared.request.Kind.{Kind}

@@ -1,4 +1,4 @@
-use Rattle.std.proofs.Common.{◌≡◌, ◌∙◌, ◌-◌, ◌++◌, ◌∷◌, [], List, ap, sym, refl, is_some, Option, ℕ}
+use Rattle.std.proofs.Common.{◌∙◌, ◌-◌, ◌++◌, ◌∷◌, [], List, ap, sym, refl, is_some, Option, ℕ}
 use Rattle.call_table.specs.declared.process.Reply3.{Reply3}
 use Rattle.one_node.proofs.Lives.{state_of}
 use Rattle.one_node.proofs.Applies.{breaks_in}

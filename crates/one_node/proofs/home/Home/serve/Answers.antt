@@ -1,4 +1,4 @@
-use Rattle.std.proofs.Common.{◌≡◌, ◌∙◌, ◌-◌, ◌++◌, ◌∷◌, [], List, Option, ap, sym, refl, slice_get, arith}
+use Rattle.std.proofs.Common.{◌≡◌, ◌∙◌, ◌-◌, ◌++◌, ◌∷◌, [], List, ap, sym, refl, slice_get, arith}
 use Rattle.std.specs.Option.{option_and_then}
 use Rattle.call_table.specs.declared.process.Reply3.{Reply3}
 use Rattle.user_spec.specs.User.{UserState}
