@@ -1,0 +1,5 @@
+pub mod Rows
+pub mod Calls
+pub mod Serving
+pub mod Moves
+pub mod Rules
