@@ -5,3 +5,4 @@ pub mod Placing
 pub mod Quanta
 pub mod Rising
 pub mod Turning
+pub mod Sums

@@ -18,7 +18,7 @@ use Rattle.remote_ctx.specs.Kept.{pids_of, IsAt, IsGap, Notes, one_if, IsSmall, 
 use Rattle.remote_ctx.specs.Acting.{fresh, standing, with_user, with_replied, GoesIn, StoodThere, WentThere, RepliedThere, RunsAs, AsksAfter, asked_of, TakenOut, fits_here, holds_for, is_waiting, is_asking}
 use Rattle.remote_ctx.proofs.Lookup.{lookup_set, removed}
 use Rattle.remote_ctx.proofs.Rising.{notes_same, at_has}
-use Rattle.remote_ctx.proofs.Kept.{rising_apart, lookup_at, lookup_insert, gap_absent, kept_set, kept_insert, kept_remove, pages_within, total_small, room_left, found_there, at_there}
+use Rattle.remote_ctx.proofs.Kept.{rising_apart, lookup_at, lookup_insert, gap_absent, kept_set, kept_insert, kept_remove, pages_within, total_small, room_left, found_there, at_there, at_within}
 
 some_none : (c : Context) (o : Option Context) → o ≡ Some c → o ≡ None → ⊥
 some_none c o h k = let z : Some c ≡ None = sym h ∙ k in cc
@@ -45,6 +45,12 @@ pub value_there : (cs : List Context) (i : ℕ) (c : Context) → i < length cs 
 value_there [] i c lt h = absurd (omega arith)
 value_there (x ∷ cs) zero c lt h = ap (λ (k : Context). Some k) (sym h)
 value_there (x ∷ cs) (suc i) c lt h = value_there cs i c (omega arith) h
+
+pub found_value : (cs vs : List Context) (pid i : ℕ) (c : Context) → cs ≡ vs → IsRising (pids_of cs) → IsAt (pids_of cs) pid i → c ≡ get_or cs i c → Some c ≡ lookup pid vs
+found_value cs vs pid i c same rising at value = sym (ap (lookup pid) (sym same) ∙ found_there cs pid i rising at ∙ value_there cs i c (at_within cs pid i at) value)
+
+pub absent_value : (cs vs : List Context) (pid i : ℕ) → cs ≡ vs → IsGap (pids_of cs) pid i → lookup pid vs ≡ None
+absent_value cs vs pid i same gap = ap (lookup pid) (sym same) ∙ gap_absent cs pid i gap
 
 -- ---- a context that changes
 
@@ -114,15 +120,15 @@ module _ (cs : List Context) (running : List ℕ) (capacity total : ℕ) (kept :
   pub room_here : (ran poked : Bool) (state : Stance) (ys : List Context) → StoodThere ran i poked state cs ys → ran ≡ false → length running < capacity
   room_here ran poked state ys r still = room_left cs running capacity total kept i r.context r.here (sym r.ran_is ∙ still)
 
-  pub stood_kept : (ran poked : Bool) (state : Stance) (ys : List Context) (new : List ℕ) (more : ℕ) → StoodThere ran i poked state cs ys → IsRising new → Notes pid (is_running state) running new → length new + one_if ran ≡ length running + one_if (is_running state) → capacity ≤ more → IsKept ys new more total
-  stood_kept ran poked state ys new more r rising notes count le =
+  pub stood_kept : (ran runs poked : Bool) (state : Stance) (ys : List Context) (new : List ℕ) (more : ℕ) → runs ≡ is_running state → StoodThere ran i poked state cs ys → IsRising new → Notes pid runs running new → length new + one_if ran ≡ length running + one_if runs → capacity ≤ more → IsKept ys new more total
+  stood_kept ran runs poked state ys new more is r rising notes count le =
       let c = r.context in
       let d = standing poked state c in
       let small = small_at cs i c kept.small r.here in
       subst (λ zs. IsKept zs new more total) (sym r.sets)
       (kept_set cs running capacity total kept i c d new more total r.here refl small refl rising
-      (subst (λ (p : ℕ). Notes p (is_running state) running new) (sym (pid_of c r.here)) notes)
-      (subst (λ b. length new + one_if b ≡ length running + one_if (is_running state)) r.ran_is count) le)
+      (subst (λ b. Notes c.pid b running new) is (subst (λ (p : ℕ). Notes p runs running new) (sym (pid_of c r.here)) notes))
+      (subst (λ b. length new + one_if b ≡ length running + one_if (is_running state)) r.ran_is (subst (λ b. length new + one_if ran ≡ length running + one_if b) is count)) le)
 
   -- the process alone changes
   user_kept : (c d : Context) (sum : ℕ) → slice_get cs i ≡ Some c → d.pid ≡ c.pid → d.state ≡ c.state → pages_of d < 2 ^ 32 → sum + pages_of c ≡ total + pages_of d → IsKept (slice_set cs i d) running capacity sum
@@ -162,10 +168,11 @@ module _ (cs : List Context) (running : List ℕ) (capacity total : ℕ) (kept :
   pub gone_within : (c : Context) → slice_get cs i ≡ Some c → pages_of c ≤ total
   gone_within c h = pages_within cs running capacity total kept i c h
 
-  pub gone_kept : (c : Context) (ys : List Context) (new : List ℕ) (more sum : ℕ) → slice_get cs i ≡ Some c → ys ≡ remove cs i → sum + pages_of c ≡ total → IsRising new → Notes pid false running new → length new + one_if (is_running c.state) ≡ length running + 0 → capacity ≤ more → IsKept ys new more sum
-  gone_kept c ys new more sum h is pages rising notes count le =
+  pub gone_kept : (c : Context) (ran : Bool) (ys : List Context) (new : List ℕ) (more sum : ℕ) → ran ≡ is_running c.state → slice_get cs i ≡ Some c → ys ≡ remove cs i → sum + pages_of c ≡ total → IsRising new → Notes pid false running new → length new + one_if ran ≡ length running + 0 → capacity ≤ more → IsKept ys new more sum
+  gone_kept c ran ys new more sum r h is pages rising notes count le =
+      let counted : length new + one_if (is_running c.state) ≡ length running + 0 = subst (λ b. length new + one_if b ≡ length running + 0) r count in
       subst (λ zs. IsKept zs new more sum) (sym is)
-      (kept_remove cs running capacity total kept i c new more sum h pages rising (subst (λ (p : ℕ). Notes p false running new) (sym (pid_of c h)) notes) (omega (arith, count)) le)
+      (kept_remove cs running capacity total kept i c new more sum h pages rising (subst (λ (p : ℕ). Notes p false running new) (sym (pid_of c h)) notes) (omega (arith, counted)) le)
 
 pub gone_taken : (cs ys vs : List Context) (pid i : ℕ) (c : Context) → cs ≡ vs → IsRising (pids_of cs) → IsAt (pids_of cs) pid i → slice_get cs i ≡ Some c → ys ≡ remove cs i → TakenOut c pid vs ys
 gone_taken cs ys vs pid i c same rising at h is =
@@ -180,6 +187,19 @@ came_puts cs ys vs i c same gap is = subst (λ zs. Puts c.pid (Some c) zs ys) sa
 
 pub came_absent : (cs : List Context) (running : List ℕ) (capacity total pid i : ℕ) → IsKept cs running capacity total → IsGap (pids_of cs) pid i → has pid running ≡ false
 came_absent cs running capacity total pid i kept gap = kept.runs pid ∙ ap runs_as (gap_absent cs pid i gap)
+
+-- more room
+pub kept_room : (cs ds : List Context) (running pids : List ℕ) (capacity more total : ℕ) → IsKept cs running capacity total → ds ≡ cs → pids ≡ running → capacity ≤ more → IsKept ds pids more total
+kept_room cs ds running pids capacity more total kept e f le =
+    subst (λ zs. IsKept zs pids more total) (sym e) (subst (λ ps. IsKept cs ps more total) (sym f) (record {
+      rising = kept.rising;
+      small = kept.small;
+      pages = kept.pages;
+      runs_rising = kept.runs_rising;
+      runs = kept.runs;
+      count = kept.count;
+      room = let r = kept.room in omega (arith, r, le);
+    }))
 
 pub came_kept : (cs ys : List Context) (running new : List ℕ) (capacity more total sum i : ℕ) (c : Context) → IsKept cs running capacity total → IsGap (pids_of cs) c.pid i → ys ≡ insert cs i c → is_running c.state ≡ true → pages_of c < 2 ^ 32 → sum ≡ total + pages_of c → IsRising new → Notes c.pid true running new → length new + 0 ≡ length running + 1 → length cs < more → IsKept ys new more sum
 came_kept cs ys running new capacity more total sum i c kept gap is runs small pages rising notes count room =

@@ -1,5 +1,5 @@
 -- Quanta, by how runs of a process come out.
-use Rattle.std.proofs.Common.{◌≡◌, ◌≢◌, ◌⊎◌, inl, inr, ℕ, zero, suc, ◌+◌, ◌-◌, ◌<◌, ◌≤◌, ◌^◌, refl, ap, ◌∙◌, sym, subst, arith, Option, Some, None, IsSome, Bool, true, false, nat_le, cond, ◌&&◌, not}
+use Rattle.std.proofs.Common.{◌≡◌, ◌≢◌, ◌⊎◌, inl, inr, ℕ, zero, suc, ◌+◌, ◌-◌, ◌<◌, ◌≤◌, ◌^◌, refl, ap, ◌∙◌, sym, subst, arith, Option, Some, None, IsSome, Result, Ok, Err, OnErr, Bool, true, false, nat_le, cond, ◌&&◌, not}
 use Rattle.std.proofs.lemmas.Bool.Decides.{nat_tests}
 use Rattle.user_spec.specs.declared.outcome.Stop.{Stop}
 use Rattle.user_spec.specs.declared.outcome.Stop.TheVariants as stops
@@ -115,3 +115,8 @@ pub at_fault : (q n signal : ℕ) (u v : UserState) (stop : Stop) → walked q u
 at_fault q n signal u v stop h z e s =
     let same = stays_there q n u v h z in
     ((signal, ap advance (sym same) ∙ stop_is (stops.Fault signal) stop v e (λ w. cc) s), same)
+
+-- what holds where there is an error
+pub on_err : {A B : Type 0} (P : Type 0) (r : Result A B) → P → OnErr r P
+on_err P (Ok x) h = tt
+on_err P (Err x) h = h

@@ -176,3 +176,11 @@ not_both b h k = let z : true ≡ false = sym h ∙ k in cc
 pub inserted : {A B X : Type 0} (r : Result A B) (new old more : List X) → IsOk r → new ≡ (if is_ok r then more else old) → new ≡ more
 inserted (Ok x) new old more h e = e
 inserted (Err x) new old more h e = absurd (let z : false ≡ true = h in cc)
+
+pub some_of : (n : ℕ) (b : Bool) → b ≡ (n == 0) → b ≡ false → 0 < n
+some_of zero b e h = absurd (let z : true ≡ false = sym e ∙ h in cc)
+some_of (suc n) b e h = omega arith
+
+pub none_of : (n : ℕ) (b : Bool) → b ≡ (n == 0) → b ≡ true → n ≡ 0
+none_of zero b e h = refl
+none_of (suc n) b e h = grind (arith, nat_tests)

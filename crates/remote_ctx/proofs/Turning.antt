@@ -18,7 +18,7 @@ use Rattle.remote_ctx.specs.declared.context.KeptMove.{KeptMove}
 use Rattle.remote_ctx.specs.declared.context.Stance.{Stance}
 use Rattle.remote_ctx.specs.declared.context.Stance.TheVariants.{Running, Waiting, Asking}
 use Rattle.remote_ctx.specs.Hosted.{lookup, Puts, PutsBoth, Changes, is_pid, runs_at, runs_as, is_running, pages_of}
-use Rattle.remote_ctx.specs.Acting.{Posted, IsStrange, fresh, standing, standing_as, keeping_as, keeping, is_waiting, is_asking, holds_for, waits_at, asks_at, stance_of, poked_as, asked_of, room_of, Sends, Heeds, is_awake, poked_context, Marks, PokedBy, PokedOn, with_replied, replied, fits_done, child_in, is_new_child, fits_stance, fits_here, fits_reply, kept_move, kept_of, resumed_stance, resumed_as, got_context, Finishes, child_user, child_context, born, Bears, what_of, mail_of, GotOn, Gets, TakenOut, Leaves, LeavesOr}
+use Rattle.remote_ctx.specs.Acting.{Posted, IsStrange, fresh, standing, standing_as, keeping_as, keeping, is_waiting, is_asking, holds_for, waits_at, asks_at, stance_of, poked_as, asked_of, room_of, Sends, Heeds, is_awake, poked_context, Marks, PokedBy, PokedOn, with_replied, replied, fits_done, child_in, is_new_child, fits_stance, fits_here, fits_reply, kept_move, kept_of, resumed_stance, resumed_as, got_context, Finishes, child_user, child_context, born, Bears, what_of, mail_of, GotOn, Gets, TakenOut, TakesOut, Leaves, LeavesOr}
 
 some_or_none : (c : Context) (o : Option Context) → o ≡ Some c → o ≡ None → ⊥
 some_or_none c o h k = let z : Some c ≡ None = sym h ∙ k in cc
@@ -29,7 +29,7 @@ true_or_false b h k = let z : true ≡ false = sym h ∙ k in cc
 -- ---- who is here
 
 pub runs_here : (o : Option Context) → runs_as o ≡ true → IsSome o
-runs_here None h = absurd (true_or_false false (sym h ∙ h) (let z : false ≡ true = h in cc))
+runs_here None h = absurd (let z : false ≡ true = h in cc)
 runs_here (Some c) h = refl
 
 pub holds_here : (test : Stance → Bool) (o : Option Context) → holds_for test o ≡ true → IsSome o
@@ -56,11 +56,11 @@ stands_as vs ys pid poked state p r = record {
   puts = subst (λ b. Puts pid (Some (standing b state r.context)) vs ys) (p ∙ ap poked_as r.here) r.puts;
 }
 
-pub keeps_as : (vs ys : List Context) (pid to line : ℕ) (state : Stance) → Some state ≡ stance_of (lookup pid vs) → Changes pid (standing_as (keeping_as state to line)) vs ys → Changes pid (keeping to line) vs ys
-keeps_as vs ys pid to line state e r = record {
+pub keeps_as : (vs ys : List Context) (pid to line : ℕ) (state next : Stance) → Some state ≡ stance_of (lookup pid vs) → next ≡ keeping_as state to line → Changes pid (standing_as next) vs ys → Changes pid (keeping to line) vs ys
+keeps_as vs ys pid to line state next e n r = record {
   context = r.context;
   here = r.here;
-  puts = subst (λ s. Puts pid (Some (standing_as (keeping_as s to line) r.context)) vs ys) (same_stance (lookup pid vs) r.context state r.here e) r.puts;
+  puts = subst (λ s. Puts pid (Some (standing_as s r.context)) vs ys) (n ∙ ap (λ s. keeping_as s to line) (same_stance (lookup pid vs) r.context state r.here e)) r.puts;
 }
 
 pub pokes_as : (vs ys : List Context) (pid : ℕ) (state : Stance) → Some state ≡ stance_of (lookup pid vs) → Changes pid (standing true state) vs ys → Changes pid poked_context vs ys
@@ -131,14 +131,14 @@ puts_twice : (vs ms ys : List Context) (pid : ℕ) (c d : Option Context) → Pu
 puts_twice vs ms ys pid c d p q = record { each = λ k. q.each k ∙ ap (λ o. cond (k == pid) d o) (p.each k) ∙ cond_twice (k == pid) d c (lookup k vs) }
 
 -- a reply, and then a new stance
-pub resumes_as : (vs ms ys : List Context) (pid : ℕ) (kept : Option KeptMove) (done : Done) → Changes pid (with_replied done) vs ms → Changes pid (standing done.more (resumed_stance kept)) ms ys → Changes pid (resumed_as kept done) vs ys
-resumes_as vs ms ys pid kept done r s =
+pub resumes_as : (vs ms ys : List Context) (pid : ℕ) (kept : Option KeptMove) (done : Done) (state : Stance) → state ≡ resumed_stance kept → Changes pid (with_replied done) vs ms → Changes pid (standing done.more state) ms ys → Changes pid (resumed_as kept done) vs ys
+resumes_as vs ms ys pid kept done state e r s =
     let same : s.context ≡ with_replied done r.context = let z : Some s.context ≡ Some (with_replied done r.context) = sym s.here ∙ there_after vs ms pid (with_replied done r.context) r.puts in cc in
     record {
       context = r.context;
       here = r.here;
       puts = puts_twice vs ms ys pid (Some (with_replied done r.context)) (Some (resumed_as kept done r.context)) r.puts
-          (subst (λ c. Puts pid (Some (standing done.more (resumed_stance kept) c)) ms ys) same s.puts);
+          (subst (λ c. Puts pid (Some (standing done.more (resumed_stance kept) c)) ms ys) same (subst (λ x. Puts pid (Some (standing done.more x s.context)) ms ys) e s.puts));
     }
 
 pub ends_as : (vs ys : List Context) (pid : ℕ) (kept : Option KeptMove) (done : Done) (c : Context) → done.ended ≡ true → TakenOut c pid vs ys → Finishes pid kept done vs ys
@@ -147,6 +147,11 @@ ends_as vs ys pid kept done c e t = record {
   here = t.here;
   puts = subst (λ b. Puts pid (cond b None (Some (resumed_as kept done c))) vs ys) (sym e) t.puts;
 }
+
+-- whoever fits is here to be taken out
+pub ends_by : (vs ys : List Context) (pid : ℕ) (kept : Option KeptMove) (done : Done) (r : Option Context) → fits_here (lookup pid vs) done ≡ true → done.ended ≡ true → TakesOut r pid vs ys → Finishes pid kept done vs ys
+ends_by vs ys pid kept done None fits e t = absurd (fits_not_none (lookup pid vs) done fits t.0)
+ends_by vs ys pid kept done (Some c) fits e t = ends_as vs ys pid kept done c e t
 
 pub goes_on : (vs ys : List Context) (pid : ℕ) (kept : Option KeptMove) (done : Done) → done.ended ≡ false → Changes pid (resumed_as kept done) vs ys → Finishes pid kept done vs ys
 goes_on vs ys pid kept done e r = record {
@@ -244,32 +249,36 @@ need_after vs ys pid c kept done need puts is = go kept done.ended refl
     go (Some move) true e = refl
     go (Some move) false e = ap (λ n. mail_of pid (Some move) false n) (is ∙ ap (λ o. unwrap_or (option_map pages_of o) 0) (here ∙ ap (λ b. let o : Option Context = cond b None (Some (resumed_as kept done c)) in o) e))
 
-pub got_as : (vs ms ys : List Context) (pid : ℕ) (kept : Option KeptMove) (done : Done) (need : ℕ) (event : What) (mail : Posted)
-    → fits_reply pid done vs ≡ true → kept ≡ kept_of (lookup pid vs) → Bears (lookup pid vs) (child_in done.answer) vs ms → Finishes pid kept done ms ys
-    → need ≡ unwrap_or (option_map pages_of (lookup pid ys)) 0 → event ≡ what_of pid kept (child_in done.answer) done.ended → mail ≡ mail_of pid kept done.ended need
-    → GotOn (record { what = event; mail = mail }) pid done vs ys
-got_as vs ms ys pid kept done need event mail fits is bears finishes need_is event_is mail_is =
+gets_fit : (vs ys : List Context) (pid : ℕ) (done : Done) (acted : Acted) → fits_reply pid done vs ≡ true → GotOn acted pid done vs ys → Gets acted pid done vs ys
+gets_fit vs ys pid done acted h g = record { fits = λ _. g; strange = λ n. absurd (true_or_false _ h n) }
+
+pub got_as : (vs ms ys : List Context) (pid : ℕ) (kept : Option KeptMove) (child : Option ℕ) (done : Done) (need : ℕ) (event : What) (mail : Posted)
+    → fits_reply pid done vs ≡ true → kept ≡ kept_of (lookup pid vs) → child ≡ child_in done.answer → Bears (lookup pid vs) child vs ms → Finishes pid kept done ms ys
+    → need ≡ unwrap_or (option_map pages_of (lookup pid ys)) 0 → event ≡ what_of pid kept child done.ended → mail ≡ mail_of pid kept done.ended need
+    → Gets (record { what = event; mail = mail }) pid done vs ys
+got_as vs ms ys pid kept child done need event mail fits is child_is bears finishes need_is event_is mail_is =
     let here = reply_here vs pid done fits in
-    let child = reply_child vs pid done fits in
+    let new = reply_child vs pid done fits in
+    let births : Bears (lookup pid vs) (child_in done.answer) vs ms = subst (λ o. Bears (lookup pid vs) o vs ms) child_is bears in
     let c = finishes.context in
-    let at : lookup pid vs ≡ Some c = sym (still_there vs ms pid (child_in done.answer) (fits_is_here (lookup pid vs) done here) child bears) ∙ finishes.here in
+    let at : lookup pid vs ≡ Some c = sym (still_there vs ms pid (child_in done.answer) (fits_is_here (lookup pid vs) done here) new births) ∙ finishes.here in
     let waits = waits_in c.state c.user done (ap (λ o. fits_here o done) (sym at) ∙ here) in
     let move : kept ≡ kept_move c.state = is ∙ ap kept_of at in
-    record {
+    gets_fit vs ys pid done (record { what = event; mail = mail }) fits (record {
       context = c;
       pause = waits.0;
       move = kept;
       here = at;
       waits = waits.1 ∙ ap (λ k. Waiting waits.0 k) (sym move);
       fits = waits.2;
-      child = child;
-      what = event_is;
+      child = new;
+      what = event_is ∙ ap (λ o. what_of pid kept o done.ended) child_is;
       mail = mail_is ∙ need_after ms ys pid c kept done need finishes.puts need_is;
-      puts = record { each = λ q. finishes.puts.each q ∙ ap (λ o. cond (q == pid) (got_context kept done c) o) (bears.each q ∙ ap (λ o. cond (is_pid (child_in done.answer) q) (born (child_in done.answer) o) (lookup q vs)) at) };
-    }
+      puts = record { each = λ q. finishes.puts.each q ∙ ap (λ o. cond (q == pid) (got_context kept done c) o) (births.each q ∙ ap (λ o. cond (is_pid (child_in done.answer) q) (born (child_in done.answer) o) (lookup q vs)) at) };
+    })
 
-pub gets_fit : (vs ys : List Context) (pid : ℕ) (done : Done) (acted : Acted) → fits_reply pid done vs ≡ true → GotOn acted pid done vs ys → Gets acted pid done vs ys
-gets_fit vs ys pid done acted h g = record { fits = λ _. g; strange = λ n. absurd (true_or_false _ h n) }
-
-pub gets_strange : (vs : List Context) (pid : ℕ) (done : Done) (acted : Acted) → fits_reply pid done vs ≡ false → acted.what ≡ what.Strange → acted.mail ≡ [] → Gets acted pid done vs vs
-gets_strange vs pid done acted h w m = record { fits = λ y. absurd (true_or_false _ y h); strange = λ _. record { what = w; mail = m; same = refl } }
+-- who fits still does once the child is here
+pub fits_still : (vs ms : List Context) (pid : ℕ) (child : Option ℕ) (done : Done) → fits_reply pid done vs ≡ true → child ≡ child_in done.answer → Bears (lookup pid vs) child vs ms → fits_here (lookup pid ms) done ≡ true
+fits_still vs ms pid child done fits is bears =
+    let here = reply_here vs pid done fits in
+    ap (λ o. fits_here o done) (still_there vs ms pid child (fits_is_here (lookup pid vs) done here) (ap (λ o. is_new_child o vs) is ∙ reply_child vs pid done fits) bears) ∙ here

@@ -1,5 +1,5 @@
 -- The contexts of a node, found by their pids.
-use Rattle.std.specs.Prelude.{◌≡◌, ℕ, ◌<◌, ◌≤◌, ◌⊎◌, ◌==◌, ◌||◌, cond, Bool, true, false, Option, Some, None, List, [], ◌∷◌, length, slice_index}
+use Rattle.std.specs.Prelude.{◌≡◌, ℕ, zero, suc, ◌+◌, ◌<◌, ◌≤◌, ◌⊎◌, ◌==◌, ◌||◌, cond, Bool, true, false, Option, Some, None, List, [], ◌∷◌, length, slice_index}
 use Rattle.std.specs.List.{sum_by}
 use Rattle.call_forward.specs.declared.state.State.{State}
 use Rattle.call_forward.specs.declared.state.State.TheVariants as state
@@ -46,6 +46,22 @@ pages_of c = need_of_user c.user
 
 abbrev pub pages_here : List Context → ℕ
 pages_here contexts = sum_by pages_of contexts
+
+-- ---- sums over all pids
+
+-- the sum of f at all numbers below n
+abbrev pub sum_to : ℕ → (ℕ → ℕ) → ℕ
+sum_to zero f = 0
+sum_to (suc n) f = sum_to n f + f n
+
+-- what a context counts, 0 where there is none
+abbrev pub counts : (Context → ℕ) → Option Context → ℕ
+counts f None = 0
+counts f (Some c) = f c
+
+-- no pid from n on is here
+pub record IsPast (n : ℕ) (contexts : List Context) : Type 0 where
+  pub none : (q : ℕ) → n ≤ q → lookup q contexts ≡ None
 
 -- ---- those that run
 

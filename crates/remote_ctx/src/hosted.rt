@@ -2,7 +2,7 @@
 ghost use Rattle.std.specs.Prelude.{◌≡◌, ℕ, Option, ◌+◌, ◌-◌, ◌<◌, ◌≤◌, ◌^◌, cond, true, false, Some, None, IsSome, [], length, min, MatchOption, IfOk, OnOk, OnErr, option_copied};
 ghost use Rattle.std.specs.Option.{option_map};
 ghost use Rattle.call_forward.specs.declared.state.State.TheVariants as state;
-ghost use Rattle.remote_ctx.specs.Hosted.{lookup, AreApart, Puts, Changes, runs_at, IsNext, NonePasses, IsRising, has, state_of, pages_of, pages_here};
+ghost use Rattle.remote_ctx.specs.Hosted.{lookup, AreApart, Puts, Changes, runs_at, IsNext, NonePasses, IsRising, has, state_of, pages_of, pages_here, IsPast, sum_to, counts};
 ghost use Rattle.remote_ctx.specs.Acting.{fresh, standing, asks_at, waits_at, holds_for, has_kept, asks_node, is_awake, stance_of, poked_as, room_of, kept_of, asked_of, RunsAs, AsksAfter, fits_here, with_replied, TakesOut};
 
 use crate::context::{Context, KeptMove, Stance};
@@ -209,6 +209,7 @@ impl Hosted {
     pub fn load(&self) -> u32
         ensures is { result ≡ min (length self.now) (2 ^ 32 - 1) }
         ensures apart { AreApart self.now }
+        ensures sum { (n : ℕ) → IsPast n self.now → length self.now ≡ sum_to n (λ q. counts (λ _. 1) (lookup q self.now)) }
     {
         let count = self.contexts.len();
         if count < u32::MAX as usize {
@@ -222,6 +223,7 @@ impl Hosted {
     pub fn pages(&self) -> u32
         ensures is { result ≡ min (pages_here self.now) (2 ^ 32 - 1) }
         ensures apart { AreApart self.now }
+        ensures sum { (n : ℕ) → IsPast n self.now → pages_here self.now ≡ sum_to n (λ q. counts pages_of (lookup q self.now)) }
     {
         if self.total < u32::MAX as u128 {
             self.total as u32

@@ -28,6 +28,7 @@ pub fn reserve(contexts: &mut Vec<Context>, running: &mut Vec<u32>) -> Result<()
     ensures capacity { vec_capacity running.old ≤ vec_capacity running.new }
     ensures place { OnOk result (vec_len contexts.new < vec_capacity contexts.new) }
     ensures room { OnOk result (vec_len contexts.new < vec_capacity running.new) }
+    ensures pid { OnOk result (vec_len running.new < vec_capacity running.new) }
 {
     contexts.reserve(1)?;
     running.reserve(contexts.len() - running.len() + 1)?;

@@ -1,5 +1,5 @@
 // What is asked and told of one context.
-ghost use Rattle.std.specs.Prelude.{◌≡◌, ◌≤◌, ◌&&◌, true, IfOk, OnErr};
+ghost use Rattle.std.specs.Prelude.{◌≡◌, ◌<◌, ◌≤◌, ◌^◌, true, IfOk, OnErr};
 ghost use Rattle.user_spec.specs.Fits.{child_of, given_by, taken_by, fits_given, fits_entered, has_room_at};
 ghost use Rattle.remote_ctx.specs.Hosted.{is_running, state_of, pages_of};
 ghost use Rattle.remote_ctx.specs.Acting.{is_waiting, is_asking, asks_node, has_kept, kept_move, keeping_as, resumed_stance, child_in, replied, fits_done, fits_stance, enters, is_possible, with_user, GoesIn};
@@ -249,6 +249,7 @@ pub fn reply_in(context: &mut Context, done: &Done) -> Change
     ensures is { context.new ≡ with_user (replied context.old.user done.now) context.old }
     ensures before { result.before ≡ pages_of context.old }
     ensures after { result.after ≡ pages_of context.new }
+    ensures few { result.after < 2 ^ 32 }
 {
     let before = context.user.need();
     reply(&mut context.user, done);

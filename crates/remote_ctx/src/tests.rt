@@ -418,3 +418,123 @@ fn replies(rt: HostRuntime) {
         (1, Some(8), Some(8))
     );
 }
+
+/// A node with a process that runs, one that waits for `fork`, one that paused, one that asks node 3 for room, and one without room for a frame that waits for `yield`.
+fn crowd(rt: &impl Abort, alloc: Global) -> Hosted {
+    let mut hosted = waiting(rt, alloc, SET_FORK, false);
+    put(rt, &mut hosted, process(rt, alloc, 1, 0x3000, &[LOOP]), 0);
+    put(rt, &mut hosted, process(rt, alloc, 9, 0x3000, &[LOOP]), 0);
+    assert_eq!(rt;
+        told(hosted.poked(alloc, 9)).0,
+        What::Poked { pid: 9, used: true }
+    );
+    assert!(rt; heed(&mut hosted, alloc, 9).is_some());
+    put(rt, &mut hosted, process(rt, alloc, 4, 0x3000, &[LOOP]), 0);
+    go(rt, &mut hosted, 4, 3);
+    put(
+        rt,
+        &mut hosted,
+        process(rt, alloc, 5, 0x2000, &[SET_YIELD, ECALL]),
+        0,
+    );
+    assert_eq!(rt; run(&mut hosted, 5, 1), Some(Ran::Steps(1)));
+    assert!(rt; send(&mut hosted, alloc, 5).is_some());
+    put(rt, &mut hosted, process(rt, alloc, 30, 0x3000, &[LOOP]), 0);
+    hosted
+}
+
+/// A handler that is entered.
+const ENTERS: Taken = Taken::Enters {
+    signal: 10,
+    handler: CODE,
+    restorer: CODE,
+    mask: 0,
+};
+
+/// A reply: to whom, with an answer of this kind and value or none, with a handler entered or not, and whether it fits.
+const REPLIES: [(u32, Option<(Kind, i32)>, bool, bool); 15] = [
+    // who runs, asks, or is not here waits for none
+    (1, Some((Kind::Plain, 0)), false, false),
+    (4, None, false, false),
+    (6, None, false, false),
+    // a call has an answer, a pause has none
+    (7, None, false, false),
+    (9, Some((Kind::Plain, 0)), false, false),
+    (9, None, false, true),
+    (9, None, true, true),
+    // a fork has a child that is not here, or an error
+    (7, Some((Kind::Fork, 2)), false, true),
+    (7, Some((Kind::Fork, 30)), false, false),
+    (7, Some((Kind::Fork, 0)), false, false),
+    (7, Some((Kind::Plain, -11)), true, true),
+    (7, Some((Kind::Return, 0)), false, false),
+    // no other call has a child, and no handler is entered without room
+    (5, Some((Kind::Fork, 2)), false, false),
+    (5, Some((Kind::Plain, 0)), true, false),
+    (5, Some((Kind::Plain, 0)), false, true),
+];
+
+fn reply_of(alloc: Global, pid: u32, given: Option<(Kind, i32)>, enters: bool) -> Message {
+    let given = match given {
+        None => None,
+        Some((kind, value)) => answer(alloc, kind, value),
+    };
+    let taken = if enters { Some(ENTERS) } else { None };
+    Message::Reply {
+        pid,
+        done: done(given, taken, false, false),
+    }
+}
+
+fn comes(rt: &impl Abort, alloc: Global, pid: u32, named: u32, hops: u32) -> Message {
+    Message::Move {
+        pid: named,
+        user: process(rt, alloc, pid, 0x3000, &[]),
+        hops,
+        line: None,
+    }
+}
+
+/// Each condition under which a message fits.
+#[test]
+fn messages_fit(rt: HostRuntime) {
+    let alloc = rt.alloc();
+    let hosted = crowd(&rt, alloc);
+    for (pid, given, enters, fits) in REPLIES {
+        assert_eq!(rt; hosted.suits(0, &reply_of(alloc, pid, given, enters)), fits);
+    }
+    for (pid, from, fits) in [(4, 3, true), (4, 2, false), (1, 3, false), (6, 3, false)] {
+        assert_eq!(rt; hosted.suits(from, &Message::Allow { pid }), fits);
+        let denied = Message::Deny {
+            pid,
+            need: 2,
+            free: 1,
+        };
+        assert_eq!(rt; hosted.suits(from, &denied), fits);
+    }
+    for (pid, fits) in [(6, true), (1, false), (7, false)] {
+        assert_eq!(rt; hosted.suits(2, &Message::Ask { pid, need: 1 }), fits);
+    }
+    for (pid, named, hops, fits) in [
+        (6, 6, 0xFFFF_FFFE, true),
+        (6, 6, 0xFFFF_FFFF, false),
+        (6, 8, 0, false),
+        (4, 4, 0, false),
+    ] {
+        assert_eq!(rt; hosted.suits(2, &comes(&rt, alloc, pid, named, hops)), fits);
+    }
+    assert!(rt; hosted.suits(0, &Message::Poke { pid: 6 }));
+}
+
+/// The next process that runs: of 1 and 30.
+#[test]
+fn turns_go_round(rt: HostRuntime) {
+    let hosted = crowd(&rt, rt.alloc());
+    assert_eq!(rt; hosted.running(), [1, 30].as_slice());
+    assert_eq!(rt; (hosted.load(), hosted.pages()), (6, 12));
+    for (after, next) in [(0, 1), (1, 30), (29, 30), (30, 1), (0xFFFF_FFFF, 1)] {
+        assert_eq!(rt; hosted.next(after), Some(next));
+    }
+    let none = Hosted::new(rt.alloc());
+    assert_eq!(rt; (none.next(0), none.load(), none.pages()), (None, 0, 0));
+}

@@ -12,10 +12,10 @@ returns-in-Ok c = absurd (not_both _ (at_has _ _ _ (rw c.deref.ensures.value at 
 pub returns-in-Err : goal.returns-in-Err
 returns-in-Err c =
     let gap = rw c.deref.ensures.value at c.in-Err.ensures.absent in
-    let is = inserted _ _ _ _ (c.insert-_inserted.ensures.succeeds c.requires.room) c.insert-_inserted.ensures.items in
+    let is = inserted _ _ _ _ (c.insert-inserted.ensures.succeeds c.requires.room) c.insert-inserted.ensures.items in
     record {
       rising = subst IsRising (sym is) (rising_insert _ _ _ gap c.requires.rising);
       notes = subst (Notes c.args.pid true c.args.pids.now.items) (sym is) (notes_insert _ _ _);
       count = ap length is ∙ length-insert _ _ _ gap.in_range;
-      capacity = c.insert-_inserted.ensures.capacity;
+      capacity = c.insert-inserted.ensures.capacity;
     }

@@ -11,7 +11,7 @@ returns-in-Err c = absurd (not_both _ c.requires.here (gap_lacks _ _ _ (rw c.der
 pub returns-in-Ok : goal.returns-in-Ok
 returns-in-Ok c =
     let at = rw c.deref.ensures.value at c.in-Ok.ensures.found in
-    let is = c.remove-_pid.ensures.items in
+    let is = c.remove-pid.ensures.items in
     record {
       rising = subst IsRising (sym is) (rising_remove _ _ at.in_range c.requires.rising);
       notes = subst (Notes c.args.pid false c.args.pids.now.items) (sym is) (notes_remove _ _ _ at c.requires.rising);

@@ -1,5 +1,5 @@
-use Rattle.std.proofs.Common.{◌≡◌, arith}
-use Rattle.remote_ctx.proofs.Quanta.{went_some, went_grown, at_call, at_fault}
+use Rattle.std.proofs.Common.{◌≡◌, ◌∙◌, arith}
+use Rattle.remote_ctx.proofs.Quanta.{went_some, went_grown, at_call, at_fault, stays_there, on_err}
 use Rattle.remote_ctx.proofs.quantum.go.Goals as goal
 
 pub returns-then-went-gt0-clause-ok : goal.returns-then-went-gt0-clause-ok
@@ -19,3 +19,8 @@ pub returns-in-AtCall-clause-ok : goal.returns-in-AtCall-clause-ok
 returns-in-AtCall-clause-ok c =
     let none : c.run-went.result.0 ≡ 0 = omega arith in
     at_call _ _ _ _ _ c.run-went.ensures.went none c.in-AtCall.is c.run-went.ensures.stop
+
+pub returns-in_err-grow-in-Grows-clause-err : goal.returns-in_err-grow-in-Grows-clause-err
+returns-in_err-grow-in-Grows-clause-err c =
+    let none : c.run-went.result.0 ≡ 0 = omega arith in
+    on_err _ _ (c.in_err-grow-in-Grows.ensures.err ∙ stays_there _ _ _ _ c.run-went.ensures.went none)

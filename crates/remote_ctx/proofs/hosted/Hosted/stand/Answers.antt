@@ -22,7 +22,7 @@ pub note-requires-clause-room : goal.note-requires-clause-room
 note-requires-clause-room c still runs = let less = room_here _ _ _ _ c.self.invariant _ _ (rw c.deref.ensures.value at c.in-Ok.ensures.found) _ _ _ _ c.stand_at-ran.ensures still in omega (arith, less, c.self.inside.running.ok.0)
 
 pub invariant_of-self : goal.invariant_of-self
-invariant_of-self c = stood_kept _ _ _ _ c.self.invariant _ _ (rw c.deref.ensures.value at c.in-Ok.ensures.found) _ _ _ _ _ _ c.stand_at-ran.ensures c.note.ensures.rising (subst (λ b. _) c.is_running-runs.ensures c.note.ensures.notes) c.note.ensures.count c.note.ensures.capacity
+invariant_of-self c = stood_kept _ _ _ _ c.self.invariant _ _ (rw c.deref.ensures.value at c.in-Ok.ensures.found) _ _ _ _ _ _ _ c.is_running-runs.ensures c.stand_at-ran.ensures c.note.ensures.rising c.note.ensures.notes c.note.ensures.count c.note.ensures.capacity
 
 pub returns-in-Ok : goal.returns-in-Ok
 returns-in-Ok c = stood_changes _ _ _ _ _ _ _ _ c.self.view_is c.self.invariant.rising (rw c.deref.ensures.value at c.in-Ok.ensures.found) c.stand_at-ran.ensures

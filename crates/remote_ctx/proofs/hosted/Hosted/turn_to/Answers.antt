@@ -1,0 +1,6 @@
+use Rattle.std.proofs.Common.{◌≡◌, sym, ap, ◌∙◌, subst, true, false, Some, None, refl}
+use Rattle.remote_ctx.proofs.Turning.{stands_as}
+use Rattle.remote_ctx.proofs.hosted.Hosted.turn_to.Goals as goal
+
+pub returns : goal.returns
+returns c = stands_as _ _ _ _ _ c.is_poked-poked.ensures c.stand.ensures
