@@ -81,10 +81,6 @@ is_fork (Some answer) = is_fork_kind answer.kind
 abbrev pub with_born : Bool → ℕ → List Row → List Row
 with_born forked from rows = if forked then rows ++ new_row from ∷ [] else rows
 
--- the row of one pid is another one
-pub record PutsRow (p : ℕ) (row : Row) (old new : List Row) : Type 0 where
-  pub each : (q : ℕ) → at_pid new q ≡ cond (q == p) (Some row) (at_pid old q)
-
 -- ---- the pids whose calls wait, the lowest first
 
 abbrev pub held_one : ℕ → Option HeldCall → List ℕ → List ℕ

@@ -8,7 +8,7 @@ ghost use Rattle.deputy.specs.Rules.{CanWait};
 ghost use Rattle.deputy.specs.Moves.{LaunchesAt, killed_in, went_in, landed_in, missed_in, closed_acted, held_number, home_suits, was_given};
 
 use crate::fitting::{fits_call, may_ask, was_given};
-use crate::orders;
+use crate::orders::{self, Landing};
 use crate::posting::{alone, strange};
 use crate::rows::Rows;
 use crate::serving::{next_ready, serve_held, serve_or_hold, serve_pause};
@@ -183,16 +183,13 @@ impl Deputies {
             return Ok(strange(alloc));
         }
         self.settled = false;
-        let acted = orders::land(
-            &self.kernel,
-            &mut self.rows,
-            alloc,
+        let landing = Landing {
             at,
-            pid,
             source,
             hops,
             line,
-        )?;
+        };
+        let acted = orders::land(&self.kernel, &mut self.rows, alloc, pid, landing)?;
         Ok(acted)
     }
 

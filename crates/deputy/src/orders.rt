@@ -97,33 +97,39 @@ pub fn go(
     Ok(alone(alloc, ordered(line, Some(Unsent::Never), None)))
 }
 
-/// A process that landed: it is believed at `at` only where its landings are more than were told.
+/// Where a process landed, from where, how many its landings are now, and the line of the script that asked for the move, if one did.
+#[derive(Clone, Copy, Debug, PartialEq, Eq)]
+pub struct Landing {
+    pub at: u8,
+    pub source: u8,
+    pub hops: u32,
+    pub line: Option<u32>,
+}
+
+/// A process that landed: it is believed there only where its landings are more than were told. Want of memory changes nothing.
 pub fn land(
     kernel: &Kernel,
     rows: &mut Rows,
     alloc: Global,
-    at: u8,
     pid: u32,
-    source: u8,
-    hops: u32,
-    line: Option<u32>,
+    landing: Landing,
 ) -> Result<Acted, NoMemory>
-    ensures ok { IfOk result (λ acted. told_turn (is_later rows.old.list pid hops) (record { kernel = kernel.now; rows = rows.old.list }) at pid source hops line ≡ record { home = record { kernel = kernel.now; rows = rows.new.list }; acted = acted }) }
+    ensures ok { IfOk result (λ acted. told_turn (is_later rows.old.list pid landing.hops) (record { kernel = kernel.now; rows = rows.old.list }) landing.at pid landing.source landing.hops landing.line ≡ record { home = record { kernel = kernel.now; rows = rows.new.list }; acted = acted }) }
     ensures err { OnErr result (rows.new.list ≡ rows.old.list) }
 {
-    let later = rows.hops(pid) < hops;
-    let place = if later { at } else { rows.place(pid) };
+    let later = rows.hops(pid) < landing.hops;
+    let place = if later { landing.at } else { rows.place(pid) };
     let poked = some_if(kernel.deliverable(pid).is_some(), pid);
     let mail = poke_to(alloc, place, poked)?;
     if later {
-        rows.land(pid, at, hops);
+        rows.land(pid, landing.at, landing.hops);
     }
     let what = What::Told {
         pid,
-        at,
-        source,
-        hops,
-        line,
+        at: landing.at,
+        source: landing.source,
+        hops: landing.hops,
+        line: landing.line,
         poked,
     };
     Ok(Acted { what, mail })
