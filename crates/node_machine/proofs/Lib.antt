@@ -3,5 +3,8 @@ pub mod Faulting
 pub mod Users
 pub mod Signals
 pub mod Scripts
+pub mod Fitting
+pub mod Calls
+pub mod Sound
 pub mod Policies
-pub mod Laws
+pub mod Lawful

@@ -206,12 +206,12 @@ pages_entered u (Enters signal handler restorer mask) = len_words u.pages (frame
 
 flat_len : (pages : PageMap) (right addr n : ℕ) (bytes : List ℕ) → flat_at pages right addr n ≡ Ok bytes → length bytes ≡ n
 flat_len pages right addr zero bytes e = let z : [] ≡ bytes = cc in ap (λ (xs : List ℕ). length xs) (sym z)
-flat_len pages right addr (suc n) bytes e = go (byte_at pages right addr) (flat_at pages right (addr + 1) n) refl e
+flat_len pages right addr (suc n) bytes e = go (byte_at pages right addr) (flat_at pages right (addr + 1) n) e (λ rest f. flat_len pages right (addr + 1) n rest f)
   where
-    go : (o : Option ℕ) (r : Result (List ℕ) ℕ) → flat_at pages right (addr + 1) n ≡ r → with_front o addr r ≡ Ok bytes → length bytes ≡ suc n
-    go None r f h = absurd cc
-    go (Some b) (Ok rest) f h = let z : b ∷ rest ≡ bytes = cc in (let y = flat_len pages right (addr + 1) n rest f in ap (λ (xs : List ℕ). length xs) (sym z) ∙ grind (arith, y))
-    go (Some b) (Err a) f h = absurd cc
+    go : (o : Option ℕ) (r : Result (List ℕ) ℕ) → with_front o addr r ≡ Ok bytes → ((rest : List ℕ) → r ≡ Ok rest → length rest ≡ n) → length bytes ≡ suc n
+    go None r h further = absurd cc
+    go (Some b) (Ok rest) h further = let z : b ∷ rest ≡ bytes = cc in (let y = further rest refl in ap (λ (xs : List ℕ). length xs) (sym z) ∙ grind (arith, y))
+    go (Some b) (Err a) h further = absurd cc
 
 unwrapped_len : (r : Result (List ℕ) ℕ) (n : ℕ) → is_ok r ≡ true → ((bytes : List ℕ) → r ≡ Ok bytes → length bytes ≡ n) → length (result_unwrap_or r []) ≡ n
 unwrapped_len (Ok bytes) n e h = h bytes refl
@@ -273,6 +273,10 @@ no_fault n e = go (n == 0) refl
     go : (b : Bool) → (n == 0) ≡ b → b ≡ false
     go true h = let z : n ≡ 0 = grind (arith, nat_tests) in (let y : true ≡ false = ap is_site_local (sym z) ∙ e in absurd cc)
     go false h = refl
+
+-- at a call there is one
+pub call_number : (u : UserState) → advance u ≡ AtCall → (number_of u == 0) ≡ false
+call_number u e = no_fault (number_of u) (local_parts (is_site_local (number_of u)) (has_buffer u) (not_local u e)).0
 
 both : (a b : Bool) → a ≡ false → b ≡ true → (not a && b) ≡ true
 both true b e f = absurd cc

@@ -1,0 +1,9 @@
+use Rattle.node_machine.specs.Machine.{machine}
+use Rattle.node_machine.specs.Policy.{given_by}
+use Rattle.node_machine.proofs.Policies.{fitting}
+use Rattle.node_machine.proofs.Sound.{sound}
+use Rattle.node_machine.proofs.Lawful.{none_skips}
+use Rattle.node_machine.proofs.laws.none_skipped.Goals as goal
+
+pub returns : goal.returns
+returns c = λ start choose plan fit is. let policy = given_by (c.C.Chooser.answers choose) in none_skips (machine policy plan) (sound policy (fitting (c.C.Chooser.answers choose) fit) plan is)
