@@ -134,7 +134,7 @@ kept_by Fork k new p raised l = record {
 called_keeps : (k : KernelState) (p : ℕ) (r : Request) (called : Called) → call_result k p r ≡ Some called → Keeps k called.kernel p (is_fork_kind called.answer.kind)
 called_keeps k p r called h = let l = call_leaves k p r called h in kept_by called.answer.kind k called.kernel p called.raised l.others
 
-pub KeepsFirst : KernelState → ℕ → Option First → Type 0
+abbrev pub KeepsFirst : KernelState → ℕ → Option First → Type 0
 KeepsFirst k p None = Unit {0}
 KeepsFirst k p (Some first) = Keeps k first.kernel p (is_fork first.answer)
 
