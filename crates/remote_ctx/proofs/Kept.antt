@@ -1,5 +1,5 @@
 -- How contexts are kept, through every edit.
-use Rattle.std.proofs.Common.{◌≡◌, ◌≢◌, ◌⊎◌, inl, inr, ℕ, zero, suc, ◌+◌, ◌-◌, ◌*◌, ◌^◌, ◌<◌, ◌≤◌, ◌==◌, ◌&&◌, ◌||◌, cond, Bool, true, false, List, [], ◌∷◌, ◌++◌, length, map, get_or, set, take, drop, Option, Some, None, Result, Ok, Err, IfOk, IfErr, refl, sym, ap, ◌∙◌, subst, arith, slice_get, slice_set, slice_index}
+use Rattle.std.proofs.Common.{◌≡◌, ℕ, zero, suc, ◌+◌, ◌*◌, ◌^◌, ◌<◌, ◌≤◌, ◌==◌, ◌||◌, cond, Bool, true, false, List, [], ◌∷◌, length, get_or, take, drop, Option, Some, None, Result, Ok, Err, IfOk, IfErr, refl, sym, ap, ◌∙◌, subst, arith, slice_get, slice_set, slice_index}
 use Rattle.std.specs.List.{insert, remove, sum_by, All}
 use Rattle.std.specs.List.Sorted.{IsSearchInRange, IsBinarySearchResult, IsNonDecreasingBy}
 use Rattle.std.specs.Ordering.{nat_cmp, ordering_index}
@@ -14,7 +14,7 @@ use Rattle.std.proofs.lemmas.Bool.Decides.{nat_tests}
 use Rattle.user_spec.specs.User.{UserState}
 use Rattle.remote_ctx.specs.declared.context.Context.{Context}
 use Rattle.remote_ctx.specs.declared.context.Stance.TheVariants.{Running}
-use Rattle.remote_ctx.specs.Hosted.{lookup, AreApart, Puts, pages_of, pages_here, is_running, runs_as, IsRising, has}
+use Rattle.remote_ctx.specs.Hosted.{lookup, AreApart, pages_of, pages_here, is_running, runs_as, IsRising, has}
 use Rattle.remote_ctx.specs.Kept.{pids_of, IsAt, IsGap, Notes, one_if, one_if_runs, IsSmall, IsKept}
 use Rattle.remote_ctx.proofs.Lookup.{found, lookup_set, removed}
 use Rattle.remote_ctx.proofs.Rising.{rising_insert, rising_remove, first_apart, tail_rising, gap_lacks}

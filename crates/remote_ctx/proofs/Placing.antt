@@ -1,5 +1,5 @@
 -- What is done at a place is done to the context of a pid.
-use Rattle.std.proofs.Common.{◌≡◌, ◌≢◌, ℕ, zero, suc, ◌+◌, ◌-◌, ◌^◌, ◌<◌, ◌≤◌, ◌==◌, cond, arith, Bool, true, false, Option, Some, None, IsSome, List, [], ◌∷◌, refl, sym, ap, ◌∙◌, subst, length, get_or, slice_get, slice_set}
+use Rattle.std.proofs.Common.{◌≡◌, ℕ, zero, suc, ◌+◌, ◌^◌, ◌<◌, ◌≤◌, ◌==◌, cond, arith, Bool, true, false, Option, Some, None, IsSome, List, [], ◌∷◌, refl, sym, ap, ◌∙◌, subst, length, get_or, slice_get, slice_set}
 use Rattle.std.specs.List.{insert, remove, All}
 use Rattle.std.specs.Option.{option_map}
 use Rattle.call_forward.specs.declared.state.State.TheVariants as state
@@ -13,12 +13,12 @@ use Rattle.remote_ctx.specs.declared.context.Stance.TheVariants.{Running, Waitin
 use Rattle.remote_ctx.specs.declared.quantum.Ran.{Ran}
 use Rattle.remote_ctx.specs.declared.quantum.Ran.TheVariants as ran
 use Rattle.remote_ctx.specs.declared.standing.Change.{Change}
-use Rattle.remote_ctx.specs.Hosted.{lookup, AreApart, Puts, Changes, pages_of, is_running, runs_as, IsRising, has, stands, state_of}
+use Rattle.remote_ctx.specs.Hosted.{lookup, Puts, Changes, pages_of, is_running, runs_as, IsRising, has, stands, state_of}
 use Rattle.remote_ctx.specs.Kept.{pids_of, IsAt, IsGap, Notes, one_if, IsSmall, IsKept}
-use Rattle.remote_ctx.specs.Acting.{fresh, standing, with_user, with_replied, GoesIn, StoodThere, WentThere, RepliedThere, RunsAs, AsksAfter, asked_of, TakenOut, fits_here, holds_for, is_waiting, is_asking}
+use Rattle.remote_ctx.specs.Acting.{standing, with_user, with_replied, GoesIn, StoodThere, WentThere, RepliedThere, RunsAs, AsksAfter, asked_of, TakenOut, fits_here, holds_for, is_waiting, is_asking}
 use Rattle.remote_ctx.proofs.Lookup.{lookup_set, removed}
-use Rattle.remote_ctx.proofs.Rising.{notes_same, at_has}
-use Rattle.remote_ctx.proofs.Kept.{rising_apart, lookup_at, lookup_insert, gap_absent, kept_set, kept_insert, kept_remove, pages_within, total_small, room_left, found_there, at_there, at_within}
+use Rattle.remote_ctx.proofs.Rising.{notes_same}
+use Rattle.remote_ctx.proofs.Kept.{rising_apart, lookup_at, lookup_insert, gap_absent, kept_set, kept_insert, kept_remove, pages_within, room_left, found_there, at_there, at_within}
 
 some_none : (c : Context) (o : Option Context) → o ≡ Some c → o ≡ None → ⊥
 some_none c o h k = let z : Some c ≡ None = sym h ∙ k in cc

@@ -1,10 +1,9 @@
 -- Quanta, by how runs of a process come out.
-use Rattle.std.proofs.Common.{◌≡◌, ◌≢◌, ◌⊎◌, inl, inr, ℕ, zero, suc, ◌+◌, ◌-◌, ◌<◌, ◌≤◌, ◌^◌, refl, ap, ◌∙◌, sym, subst, arith, Option, Some, None, IsSome, Result, Ok, Err, OnErr, Bool, true, false, nat_le, cond, ◌&&◌, not}
+use Rattle.std.proofs.Common.{◌≡◌, ◌≢◌, ◌⊎◌, inl, inr, ℕ, zero, suc, ◌+◌, ◌-◌, ◌<◌, ◌≤◌, refl, ap, ◌∙◌, sym, subst, arith, Some, None, Result, Ok, Err, OnErr, Bool, true, false, nat_le, cond, ◌&&◌}
 use Rattle.std.proofs.lemmas.Bool.Decides.{nat_tests}
 use Rattle.user_spec.specs.declared.outcome.Stop.{Stop}
 use Rattle.user_spec.specs.declared.outcome.Stop.TheVariants as stops
 use Rattle.user_ctx.specs.Stopping.{StopsAt}
-use Rattle.user_ctx.proofs.Calls.{grows_done}
 use Rattle.user_spec.specs.User.{UserState}
 use Rattle.user_spec.specs.Advance.{Went, Done, AtCall, Faults, advance, advanced, on_done, Walk, walked, walk_on, stays, one_more, quantum_of, grows, user_after}
 use Rattle.remote_ctx.specs.declared.quantum.Ran.TheVariants as ran

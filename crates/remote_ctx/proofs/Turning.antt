@@ -1,5 +1,5 @@
 -- What a process that is hosted sends home, what pokes it, and how it moves and is answered.
-use Rattle.std.proofs.Common.{◌≡◌, ◌≢◌, ℕ, ◌==◌, ◌&&◌, cond, not, arith, Bool, true, false, Option, Some, None, IsSome, List, [], ◌∷◌, refl, sym, ap, ◌∙◌, subst, unwrap_or, is_none}
+use Rattle.std.proofs.Common.{◌≡◌, ℕ, ◌==◌, ◌&&◌, cond, arith, Bool, true, false, Option, Some, None, IsSome, List, [], ◌∷◌, refl, sym, ap, ◌∙◌, subst, unwrap_or, is_none}
 use Rattle.std.specs.Option.{option_map}
 use Rattle.std.proofs.lemmas.Bool.Decides.{nat_tests}
 use Rattle.call_table.specs.declared.request.Request.{Request}
@@ -7,18 +7,15 @@ use Rattle.node_event.specs.declared.event.What.{What}
 use Rattle.node_event.specs.declared.event.What.TheVariants as what
 use Rattle.call_forward.specs.declared.acted.Acted.{Acted}
 use Rattle.call_forward.specs.declared.message.Done.{Done}
-use Rattle.call_forward.specs.declared.message.Message.{Message}
 use Rattle.call_forward.specs.declared.message.Message.TheVariants.{Call, Pause}
 use Rattle.user_spec.specs.User.{UserState}
 use Rattle.user_spec.specs.Request.{forked}
-use Rattle.user_spec.specs.Advance.{request_of}
-use Rattle.user_spec.specs.Fits.{has_room_at}
 use Rattle.remote_ctx.specs.declared.context.Context.{Context}
 use Rattle.remote_ctx.specs.declared.context.KeptMove.{KeptMove}
 use Rattle.remote_ctx.specs.declared.context.Stance.{Stance}
 use Rattle.remote_ctx.specs.declared.context.Stance.TheVariants.{Running, Waiting, Asking}
-use Rattle.remote_ctx.specs.Hosted.{lookup, Puts, PutsBoth, Changes, is_pid, runs_at, runs_as, is_running, pages_of}
-use Rattle.remote_ctx.specs.Acting.{Posted, IsStrange, fresh, standing, standing_as, keeping_as, keeping, is_waiting, is_asking, holds_for, waits_at, asks_at, stance_of, poked_as, asked_of, room_of, Sends, Heeds, is_awake, poked_context, Marks, PokedBy, PokedOn, with_replied, replied, fits_done, child_in, is_new_child, fits_stance, fits_here, fits_reply, kept_move, kept_of, resumed_stance, resumed_as, got_context, Finishes, child_user, child_context, born, Bears, what_of, mail_of, GotOn, Gets, TakenOut, TakesOut, Leaves, LeavesOr}
+use Rattle.remote_ctx.specs.Hosted.{lookup, Puts, Changes, is_pid, runs_as, pages_of}
+use Rattle.remote_ctx.specs.Acting.{Posted, fresh, standing, standing_as, keeping_as, keeping, is_asking, holds_for, asks_at, stance_of, poked_as, asked_of, room_of, Sends, Heeds, is_awake, poked_context, PokedBy, with_replied, fits_done, child_in, is_new_child, fits_stance, fits_here, fits_reply, kept_move, kept_of, resumed_stance, resumed_as, got_context, Finishes, child_user, born, Bears, what_of, mail_of, GotOn, Gets, TakenOut, TakesOut, Leaves}
 
 some_or_none : (c : Context) (o : Option Context) → o ≡ Some c → o ≡ None → ⊥
 some_or_none c o h k = let z : Some c ≡ None = sym h ∙ k in cc

@@ -1,6 +1,5 @@
 -- What the calls on the contexts of a node do.
-use Rattle.std.specs.Prelude.{◌≡◌, ℕ, ◌+◌, ◌-◌, ◌^◌, ◌<◌, ◌≤◌, ◌⊎◌, ◌==◌, ◌&&◌, not, nat_lt, is_none, slice_get, slice_set, IsSome, cond, Bool, true, false, Option, Some, None, List, [], ◌∷◌}
-use Rattle.std.specs.Option.{option_map}
+use Rattle.std.specs.Prelude.{◌≡◌, ℕ, ◌-◌, ◌^◌, ◌<◌, ◌≤◌, ◌⊎◌, ◌==◌, ◌&&◌, not, nat_lt, is_none, slice_get, slice_set, IsSome, cond, Bool, true, false, Option, Some, None, List, [], ◌∷◌}
 use Rattle.call_table.specs.declared.request.Request.{Request}
 use Rattle.call_table.specs.declared.request.Answer.{Answer}
 use Rattle.call_table.specs.declared.request.Taken.{Taken}
@@ -15,7 +14,7 @@ use Rattle.call_forward.specs.declared.message.Message.{Message}
 use Rattle.call_forward.specs.declared.message.Message.TheVariants.{Call, Pause, Reply, Poke, Go, NotHere, Ask, Allow, Deny, Move, Landed, NoMove, Half}
 use Rattle.user_spec.specs.User.{UserState}
 use Rattle.user_spec.specs.Request.{forked}
-use Rattle.user_spec.specs.Advance.{Walk, AtCall, Faults, advance, advanced, grows, quantum_of, request_of}
+use Rattle.user_spec.specs.Advance.{AtCall, Faults, advance, advanced, grows, quantum_of, request_of}
 use Rattle.user_spec.specs.Fits.{child_of, given_by, taken_by, fits_answer, fits_given, fits_entered, has_room_at}
 use Rattle.remote_ctx.specs.declared.context.Context.{Context}
 use Rattle.remote_ctx.specs.declared.context.KeptMove.{KeptMove}

@@ -3,11 +3,10 @@ use Rattle.std.specs.Prelude.{◌≡◌, ℕ, zero, suc, ◌+◌, ◌<◌, ◌�
 use Rattle.std.specs.List.{sum_by}
 use Rattle.call_forward.specs.declared.state.State.{State}
 use Rattle.call_forward.specs.declared.state.State.TheVariants as state
-use Rattle.user_spec.specs.User.{UserState, need_of_user}
+use Rattle.user_spec.specs.User.{need_of_user}
 use Rattle.remote_ctx.specs.declared.context.Context.{Context}
 use Rattle.remote_ctx.specs.declared.context.Stance.{Stance}
 use Rattle.remote_ctx.specs.declared.context.Stance.TheVariants.{Running, Waiting, Asking}
-use Rattle.remote_ctx.specs.declared.context.KeptMove.{KeptMove}
 
 -- the context of a pid
 abbrev pub lookup : ℕ → List Context → Option Context

@@ -1,5 +1,5 @@
 -- How contexts are kept: by rising pids, with the pids of those that run, and the sum of their pages.
-use Rattle.std.specs.Prelude.{◌≡◌, ℕ, ◌+◌, ◌<◌, ◌≤◌, ◌^◌, ◌==◌, ◌||◌, cond, Bool, true, false, List, [], ◌∷◌, length, map, slice_index}
+use Rattle.std.specs.Prelude.{◌≡◌, ℕ, ◌<◌, ◌≤◌, ◌^◌, ◌==◌, cond, Bool, true, false, List, length, map, slice_index}
 use Rattle.std.specs.List.{sum_by, All}
 use Rattle.remote_ctx.specs.declared.context.Context.{Context}
 use Rattle.remote_ctx.specs.Hosted.{lookup, pages_of, pages_here, is_running, runs_as, IsRising, has}

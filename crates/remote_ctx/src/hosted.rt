@@ -270,7 +270,7 @@ impl Hosted {
     }
 
     /// Takes a context out. None exactly where it is not here.
-    pub(crate) fn take_out(&mut self, pid: u32) -> Option<Context>
+    pub fn take_out(&mut self, pid: u32) -> Option<Context>
         ensures { TakesOut result pid self.old self.new }
     {
         match place_of(&self.contexts, pid) {

@@ -16,3 +16,4 @@ mod tests;
 pub use context::{Context, KeptMove, Stance};
 pub use hosted::Hosted;
 pub use quantum::Ran;
+pub use standing::child_in;

@@ -1,8 +1,7 @@
-use Rattle.std.proofs.Common.{◌≡◌, sym, ap, ◌∙◌, subst, true, false, length, arith}
-use Rattle.std.specs.List.{insert}
+use Rattle.std.proofs.Common.{sym, ap, ◌∙◌, subst, true, length}
 use Rattle.std.proofs.lemmas.List.Edits.{length-insert}
 use Rattle.remote_ctx.specs.Hosted.{IsRising}
-use Rattle.remote_ctx.specs.Kept.{IsGap, Notes}
+use Rattle.remote_ctx.specs.Kept.{Notes}
 use Rattle.remote_ctx.proofs.Rising.{at_has, not_both, inserted, rising_insert, notes_insert}
 use Rattle.remote_ctx.proofs.pids.add.Goals as goal
 

@@ -1,4 +1,4 @@
-use Rattle.std.proofs.Common.{◌≡◌, refl, sym, ◌∙◌}
+use Rattle.std.proofs.Common.{refl}
 use Rattle.remote_ctx.proofs.Rising.{next_cut, next_first, some_of}
 use Rattle.remote_ctx.proofs.pids.next.Goals as goal
 

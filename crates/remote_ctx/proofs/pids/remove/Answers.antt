@@ -1,7 +1,7 @@
-use Rattle.std.proofs.Common.{◌≡◌, ◌+◌, sym, ap, ◌∙◌, subst, true, false, length, arith}
+use Rattle.std.proofs.Common.{◌+◌, sym, ap, ◌∙◌, subst, false, length, arith}
 use Rattle.std.proofs.lemmas.List.Edits.{length-remove}
 use Rattle.remote_ctx.specs.Hosted.{IsRising}
-use Rattle.remote_ctx.specs.Kept.{IsAt, Notes}
+use Rattle.remote_ctx.specs.Kept.{Notes}
 use Rattle.remote_ctx.proofs.Rising.{gap_lacks, not_both, rising_remove, notes_remove}
 use Rattle.remote_ctx.proofs.pids.remove.Goals as goal
 

@@ -1,4 +1,4 @@
-use Rattle.std.proofs.Common.{◌≡◌, ◌∙◌, slice_get, slice_set, Some, ap, arith}
+use Rattle.std.proofs.Common.{◌∙◌, slice_set, ap, arith}
 use Rattle.std.proofs.lemmas.Option.{gets}
 use Rattle.remote_ctx.specs.Hosted.{pages_of}
 use Rattle.remote_ctx.proofs.place.reply_at.Goals as goal

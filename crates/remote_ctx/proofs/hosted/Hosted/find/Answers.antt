@@ -1,7 +1,7 @@
-use Rattle.std.proofs.Common.{◌≡◌, ◌<◌, ◌≤◌, ◌+◌, ◌-◌, ◌^◌, sym, ap, ◌∙◌, subst, true, false, Some, None, length, List, ℕ, arith, refl}
+use Rattle.std.proofs.Common.{sym, subst, List}
 use Rattle.remote_ctx.specs.declared.context.Context.{Context}
-use Rattle.remote_ctx.specs.Hosted.{lookup, IsRising, pages_of}
-use Rattle.remote_ctx.specs.Kept.{pids_of, IsAt, IsGap, IsKept}
+use Rattle.remote_ctx.specs.Hosted.{IsRising}
+use Rattle.remote_ctx.specs.Kept.{pids_of}
 use Rattle.remote_ctx.proofs.Placing.{found_value, absent_value}
 use Rattle.remote_ctx.proofs.hosted.Hosted.find.Goals as goal
 

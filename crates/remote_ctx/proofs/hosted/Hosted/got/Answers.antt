@@ -1,4 +1,4 @@
-use Rattle.std.proofs.Common.{◌≡◌, sym, ap, ◌∙◌, subst, true, false, Some, None, refl, unwrap_or}
+use Rattle.std.proofs.Common.{sym, ap, ◌∙◌, unwrap_or}
 use Rattle.remote_ctx.proofs.Turning.{got_as, fits_still}
 use Rattle.remote_ctx.proofs.hosted.Hosted.got.Goals as goal
 

@@ -1,4 +1,3 @@
-use Rattle.std.proofs.Common.{◌≡◌, sym, ap, ◌∙◌, subst, true, false, Some, None, refl}
 use Rattle.remote_ctx.proofs.Turning.{heeds_as}
 use Rattle.remote_ctx.proofs.hosted.Hosted.heed.Goals as goal
 

@@ -1,7 +1,7 @@
-use Rattle.std.proofs.Common.{◌≡◌, ◌<◌, ◌≤◌, ◌+◌, ◌-◌, ◌^◌, sym, ap, ◌∙◌, subst, true, false, Some, None, length, List, ℕ, arith, refl}
+use Rattle.std.proofs.Common.{◌≡◌, ◌<◌, ◌≤◌, ◌+◌, ◌^◌, sym, ap, ◌∙◌, subst, true, false, length, List, ℕ, arith, refl}
 use Rattle.remote_ctx.specs.declared.context.Context.{Context}
 use Rattle.remote_ctx.specs.Hosted.{lookup, IsRising, has, pages_of}
-use Rattle.remote_ctx.specs.Kept.{pids_of, IsAt, IsGap, IsKept, Notes}
+use Rattle.remote_ctx.specs.Kept.{pids_of, IsGap, Notes}
 use Rattle.remote_ctx.specs.Acting.{fresh}
 use Rattle.std.specs.List.{insert}
 use Rattle.remote_ctx.proofs.Kept.{length_pids, running_most, total_small}

@@ -1,7 +1,7 @@
-use Rattle.std.proofs.Common.{◌≡◌, ◌<◌, ◌≤◌, ◌+◌, ◌-◌, ◌^◌, sym, ap, ◌∙◌, subst, true, false, Some, None, length, List, ℕ, arith, refl}
+use Rattle.std.proofs.Common.{◌<◌, ◌≤◌, ◌^◌, sym, subst, length, List, arith}
 use Rattle.remote_ctx.specs.declared.context.Context.{Context}
-use Rattle.remote_ctx.specs.Hosted.{lookup, IsRising, pages_of}
-use Rattle.remote_ctx.specs.Kept.{pids_of, IsAt, IsGap, IsKept}
+use Rattle.remote_ctx.specs.Hosted.{IsRising}
+use Rattle.remote_ctx.specs.Kept.{pids_of}
 use Rattle.remote_ctx.proofs.Kept.{at_within, total_small}
 use Rattle.remote_ctx.proofs.Placing.{absent_value, replied_changes, replied_kept, replied_within, fits_there}
 use Rattle.remote_ctx.proofs.Turning.{fits_not_none}

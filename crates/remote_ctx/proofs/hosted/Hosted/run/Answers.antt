@@ -1,7 +1,7 @@
-use Rattle.std.proofs.Common.{◌≡◌, ◌<◌, ◌≤◌, ◌+◌, ◌-◌, ◌^◌, sym, ap, ◌∙◌, subst, true, false, Some, None, length, vec_capacity, List, ℕ, arith, refl}
+use Rattle.std.proofs.Common.{◌<◌, ◌≤◌, ◌^◌, sym, subst, length, vec_capacity, List, arith}
 use Rattle.remote_ctx.specs.declared.context.Context.{Context}
-use Rattle.remote_ctx.specs.Hosted.{lookup, IsRising, pages_of}
-use Rattle.remote_ctx.specs.Kept.{pids_of, IsAt, IsGap, IsKept}
+use Rattle.remote_ctx.specs.Hosted.{IsRising}
+use Rattle.remote_ctx.specs.Kept.{pids_of, IsKept}
 use Rattle.remote_ctx.proofs.Kept.{at_within, total_small}
 use Rattle.remote_ctx.proofs.Placing.{went_runs, went_kept, went_within, asks_after}
 use Rattle.remote_ctx.proofs.hosted.Hosted.run.Goals as goal

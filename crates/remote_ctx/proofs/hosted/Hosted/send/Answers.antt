@@ -1,4 +1,4 @@
-use Rattle.std.proofs.Common.{◌≡◌, sym, ap, ◌∙◌, subst, true, false, Some, None, refl}
+use Rattle.std.proofs.Common.{sym, ◌∙◌}
 use Rattle.remote_ctx.proofs.Turning.{sends_as}
 use Rattle.remote_ctx.proofs.hosted.Hosted.send.Goals as goal
 

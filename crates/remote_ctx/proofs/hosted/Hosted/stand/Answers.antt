@@ -1,7 +1,7 @@
-use Rattle.std.proofs.Common.{◌≡◌, ◌<◌, ◌≤◌, ◌+◌, ◌^◌, sym, ap, ◌∙◌, subst, true, false, length, List, arith, refl}
+use Rattle.std.proofs.Common.{sym, subst, List, arith}
 use Rattle.remote_ctx.specs.declared.context.Context.{Context}
 use Rattle.remote_ctx.specs.Hosted.{IsRising}
-use Rattle.remote_ctx.specs.Kept.{pids_of, IsAt, IsGap}
+use Rattle.remote_ctx.specs.Kept.{pids_of}
 use Rattle.remote_ctx.proofs.Kept.{at_within}
 use Rattle.remote_ctx.proofs.Placing.{here_in_gap, stood_changes, ran_here, room_here, stood_kept}
 use Rattle.remote_ctx.proofs.hosted.Hosted.stand.Goals as goal

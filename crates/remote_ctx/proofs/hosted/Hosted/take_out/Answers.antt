@@ -1,7 +1,7 @@
-use Rattle.std.proofs.Common.{◌≡◌, ◌<◌, ◌≤◌, ◌+◌, ◌-◌, ◌^◌, sym, ap, ◌∙◌, subst, true, false, Some, None, length, List, ℕ, arith, refl}
+use Rattle.std.proofs.Common.{◌≡◌, ◌≤◌, ◌+◌, ◌-◌, sym, ◌∙◌, subst, true, false, List, arith, refl}
 use Rattle.remote_ctx.specs.declared.context.Context.{Context}
-use Rattle.remote_ctx.specs.Hosted.{lookup, IsRising, pages_of}
-use Rattle.remote_ctx.specs.Kept.{pids_of, IsAt, IsGap, IsKept}
+use Rattle.remote_ctx.specs.Hosted.{IsRising, pages_of}
+use Rattle.remote_ctx.specs.Kept.{pids_of}
 use Rattle.remote_ctx.proofs.Kept.{at_within}
 use Rattle.remote_ctx.proofs.Placing.{absent_value, value_there, gone_pid, gone_within, gone_kept, gone_taken}
 use Rattle.remote_ctx.proofs.hosted.Hosted.take_out.Goals as goal
