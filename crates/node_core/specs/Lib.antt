@@ -1,0 +1,6 @@
+pub mod Letters
+pub mod Locals
+pub mod Suits
+pub mod Rotation
+pub mod Making
+pub mod Turns
