@@ -1,7 +1,8 @@
 -- What the machine's calls, faults and signals leave.
-use Rattle.std.proofs.Common.{◌≡◌, ◌≢◌, ℕ, zero, suc, ◌+◌, ◌<◌, ◌==◌, ◌||◌, List, [], ◌∷◌, length, refl, ap, ◌∙◌, sym, subst, arith, cond, Option, Some, None, Bool, true, false}
+use Rattle.std.proofs.Common.{◌≡◌, ◌≢◌, ◌⊎◌, inl, inr, ℕ, zero, suc, ◌+◌, ◌≤◌, ◌<◌, ◌==◌, ◌||◌, nat_le, nat_lt, List, [], ◌∷◌, length, slice_get, refl, ap, ◌∙◌, sym, subst, arith, cond, Option, Some, None, Bool, true, false, is_some, ℤ, pos}
 use Rattle.std.specs.Option.{option_map}
 use Rattle.std.specs.Prelude.{count_by}
+use Rattle.std.proofs.lemmas.Bool.Decides.{nat_tests}
 use Rattle.std.proofs.lemmas.List.Sums.{sum_by-cons}
 use Rattle.call_table.specs.declared.request.Request.{Request}
 use Rattle.call_table.specs.declared.request.Answer.{Answer}
@@ -9,6 +10,7 @@ use Rattle.call_table.specs.declared.request.Kind.{Kind}
 use Rattle.call_table.specs.declared.request.Kind.TheVariants.{Plain, Fork, Return}
 use Rattle.call_table.specs.declared.request.Taken.{Taken}
 use Rattle.call_table.specs.declared.process.End.{End}
+use Rattle.call_table.specs.declared.process.End.TheVariants as ends
 use Rattle.proc_tree.specs.declared.process.Process.{Process}
 use Rattle.proc_tree.specs.Processes.{is_live as lives}
 use Rattle.proc_tree.specs.Tree.{live_at}
@@ -17,6 +19,7 @@ use Rattle.kernel_spec.specs.Calls.{call_result}
 use Rattle.kernel_spec.specs.Others.{is_at, child_of, counted as counted_by, live_count, LeavesOthers, LeavesProcesses}
 use Rattle.kernel_spec.proofs.CallFacts.{call_leaves, end_leaves}
 use Rattle.kernel_spec.proofs.KernelFacts.{take_leaves, few_launch as few_there, given_launch, live_launch as live_there, live_launched}
+use Rattle.protocol.specs.Deeds.{positive}
 use Rattle.protocol.specs.Ops.{Acted, Took, counted, is_child, sum_below, one_if}
 use Rattle.node_machine.specs.Machine.{acted, serve_at, took_as, taken_at, launched}
 use Rattle.node_machine.proofs.Fitting.{child_is}

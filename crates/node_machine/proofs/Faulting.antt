@@ -1,5 +1,5 @@
 -- A fault names a signal.
-use Rattle.std.proofs.Common.{◌≡◌, ℕ, ◌*◌, ◌/◌, ◌%◌, ◌==◌, Bool, true, false, cond, Option, Some, None, Result, Ok, Err, List, not, nat_le, nat_lt, refl, ◌∷◌}
+use Rattle.std.proofs.Common.{◌≡◌, ℕ, ◌+◌, ◌*◌, ◌/◌, ◌%◌, ◌^◌, ◌==◌, Bool, true, false, cond, Option, Some, None, Result, Ok, Err, List, not, nat_le, nat_lt, refl, ◌∷◌}
 use Rattle.call_table.specs.Calls.{is_signal_number}
 use Rattle.call_table.specs.declared.limit.TheConstants.{STEPS}
 use Rattle.call_table.specs.declared.signal.TheConstants.{SIGSEGV, SIGXCPU}
@@ -14,9 +14,9 @@ use Rattle.user_spec.specs.declared.outcome.Outcome.{Outcome}
 use Rattle.user_spec.specs.declared.outcome.Outcome.TheVariants.{Done, Call, Fault}
 use Rattle.user_spec.specs.Words.{sum_of, extended, is_below}
 use Rattle.user_spec.specs.User.{UserState}
-use Rattle.user_spec.specs.Instruction.{Core, effect_of, jump, branch, decoded_effect, fetched_effect, next_effect, with_loaded, with_stored, load_as, store_as, applied, one_instruction, value_of}
+use Rattle.user_spec.specs.Instruction.{Core, Ran, effect_of, jump, branch, decoded_effect, fetched_effect, next_effect, with_loaded, with_stored, load_as, store_as, applied, one_instruction, value_of}
 use Rattle.user_spec.specs.Request.{is_local_call}
-use Rattle.user_spec.specs.Advance.{Went, Done as Went_done, AtCall, Faults, advance, went_by, counted, core_of}
+use Rattle.user_spec.specs.Advance.{Went, Done as Went_done, AtCall, Faults, advance, went_of, went_by, at_call, counted, core_of}
 use Rattle.user_spec.specs.Request.{local_call}
 
 abbrev Fine : Effect → Type 0

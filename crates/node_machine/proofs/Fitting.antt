@@ -1,5 +1,5 @@
 -- What a call answers fits the process at it.
-use Rattle.std.proofs.Common.{◌≡◌, ◌≢◌, ℕ, suc, ◌+◌, ◌==◌, ◌||◌, ◌&&◌, not, List, refl, ap, ◌∙◌, sym, arith, cond, Option, Some, None, Bool, true, false, length, pos}
+use Rattle.std.proofs.Common.{◌≡◌, ◌≢◌, ℕ, zero, suc, ◌+◌, ◌==◌, ◌||◌, ◌&&◌, not, List, refl, ap, ◌∙◌, sym, subst, arith, cond, Option, Some, None, Bool, true, false, slice_index, length, ℤ, pos}
 use Rattle.std.specs.Option.{option_map}
 use Rattle.std.proofs.lemmas.Bool.Decides.{nat_tests}
 use Rattle.call_table.specs.Calls.{need_of}

@@ -1,5 +1,5 @@
 -- The laws of a run, of any machine that is sound.
-use Rattle.std.proofs.Common.{sym, subst, List}
+use Rattle.std.proofs.Common.{◌≡◌, sym, subst, List, ℕ}
 use Rattle.protocol.specs.Ops.{Ops, Sound}
 use Rattle.protocol.specs.Deeds.{Noted}
 use Rattle.run_laws.specs.Whole.{Holds}

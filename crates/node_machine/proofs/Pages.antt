@@ -1,7 +1,8 @@
 -- Writes leave each page its rights, and as many pages.
-use Rattle.std.proofs.Common.{◌≡◌, inl, inr, ℕ, zero, suc, ◌+◌, ◌/◌, ◌%◌, ◌^◌, List, [], ◌∷◌, refl, ap, ◌∙◌, sym, Bool, cond, true, false, Option, Some, None, Result, Ok, Err, ◌==◌, ◌&&◌, is_some, bit_and, slice_index}
+use Rattle.std.proofs.Common.{◌≡◌, ◌≢◌, ◌⊎◌, inl, inr, ℕ, zero, suc, ◌+◌, ◌/◌, ◌%◌, ◌^◌, List, [], ◌∷◌, refl, ap, ◌∙◌, sym, Bool, cond, true, false, Option, Some, None, Result, Ok, Err, ◌==◌, ◌&&◌, is_some, bit_and, slice_index, slice_set}
 use Rattle.std.specs.Prelude.{is_ok}
 use Rattle.std.specs.Option.{option_map}
+use Rattle.std.specs.Ordering.{nat_cmp}
 use Rattle.std.specs.Cmp.{nat_cmp_total}
 use Rattle.std.specs.FinMap as map
 use Rattle.std.proofs.lemmas.Bool.Decides.{eqb_tells}

@@ -1,14 +1,15 @@
 -- Policies of choosers: their choices fit, and they have answers where the chooser has.
-use Rattle.std.proofs.Common.{◌≡◌, ◌≢◌, ◌<◌, ◌^◌, ◌⊎◌, inl, inr, ℕ, Option, Some, None, List, [], ◌∷◌, map, refl, sym, subst, arith}
+use Rattle.std.proofs.Common.{◌≡◌, ◌≢◌, ◌<◌, ◌≤◌, ◌^◌, ◌⊎◌, inl, inr, ℕ, suc, Bool, true, false, Option, Some, None, List, [], ◌∷◌, map, refl, sym, ap, ◌∙◌, subst, arith}
 use Rattle.std.specs.Option.{option_map}
-use Rattle.std.specs.Prelude.{All}
+use Rattle.std.specs.Prelude.{All, Contains}
 use Rattle.std.proofs.lemmas.Bool.Decides.{leb_tells, eqb_tells}
 use Rattle.std.proofs.lemmas.List.Elements.{All-nil, All-cons, All-head, All-tail, All-weaker, All-map, All-contains}
 use Rattle.call_table.specs.declared.process.Entry as entry_row
 use Rattle.mem_usher.specs.declared.sight.Sight as sight_row
 use Rattle.mem_usher.specs.declared.sight.Choice as choice_row
-use Rattle.policy_box.specs.Policies.{IsInRange, FitsEntry, Fits}
+use Rattle.policy_box.specs.Policies.{IsInRange, FitsEntry, Fits, ChoosesFit}
 use Rattle.protocol.specs.Gossip.{Entry, Movable, Sight, Choice, IsKnown, IsMovable}
+use Rattle.node_machine.specs.Machine.{Policy}
 use Rattle.node_machine.specs.Policy.{told_entry, told_movable, told_sight, told_choice, given_by, never, IsFitting, Answers, HasAnswers}
 
 -- ---- members of what is told are members

@@ -5,10 +5,10 @@ use Rattle.call_table.specs.declared.request.Taken.{Taken}
 use Rattle.call_table.specs.declared.request.Taken.TheVariants.{Dies, Enters}
 use Rattle.signal_set.specs.declared.act.Act.{Act}
 use Rattle.signal_set.specs.declared.act.Act.TheVariants.{Default, Ignore, Handler}
-use Rattle.signal_set.specs.Signals.{SignalState, took, act_of, lowest_deliverable, without_signal}
+use Rattle.signal_set.specs.Signals.{SignalState, Took, took, act_of, lowest_deliverable, without_signal}
 use Rattle.signal_set.specs.Acts.{taken_by}
 use Rattle.kernel_spec.specs.Processes.{is_handled, taken_of, take_of, live_signals}
-use Rattle.kernel_spec.specs.Kernel.{KernelState, after_took, after_taken}
+use Rattle.kernel_spec.specs.Kernel.{KernelState, AfterTake, after_took, after_taken}
 use Rattle.user_spec.specs.User.{UserState}
 use Rattle.user_spec.specs.Fits.{fits_taken, has_room_at}
 use Rattle.node_machine.specs.Machine.{took_as, taken_at}

@@ -1,27 +1,34 @@
 -- The facts of the machine that the laws need.
-use Rattle.std.proofs.Common.{◌≡◌, ◌≢◌, ℕ, zero, suc, length, slice_index, refl, ap, ◌∙◌, sym, cond, Option, Some, None, Bool, true, false}
+use Rattle.std.proofs.Common.{◌≡◌, ◌≢◌, ℕ, zero, suc, ◌+◌, ◌≤◌, ◌<◌, ◌==◌, ◌||◌, List, length, slice_get, slice_index, refl, ap, ◌∙◌, sym, subst, arith, cond, Option, Some, None, Bool, true, false, is_some}
+use Rattle.std.specs.Option.{option_map}
+use Rattle.call_table.specs.Calls.{need_of}
+use Rattle.call_table.specs.declared.call.TheConstants.{SIGRETURN}
 use Rattle.call_table.specs.declared.error.TheConstants.{EINTR}
 use Rattle.call_table.specs.declared.request.Request.{Request}
 use Rattle.call_table.specs.declared.request.Answer.{Answer}
+use Rattle.call_table.specs.declared.request.Taken.{Taken}
 use Rattle.call_table.specs.declared.process.End.TheVariants as ends
 use Rattle.node_event.specs.declared.script.Order.TheVariants as order
 use Rattle.user_spec.specs.User.{UserState}
-use Rattle.user_spec.specs.Request.{returned}
+use Rattle.user_spec.specs.Request.{number_of, args_of, buffer_of, stack_pointer, has_buffer, returned, returned_pointer, has_frame_room, call_request, asked_args}
 use Rattle.user_spec.specs.Advance.{request_of}
-use Rattle.kernel_spec.specs.Kernel.{KernelState, no_process, is_live, value_answer}
-use Rattle.kernel_spec.proofs.KernelFacts.{deliverable_lives, given_has_end, dead_after_end, given_raise, live_raise, quiet_hit}
+use Rattle.kernel_spec.specs.Processes.{heeding}
+use Rattle.kernel_spec.specs.Kernel.{KernelState, Called, no_process, given, is_live, with_raised, deliverable, value_answer}
+use Rattle.kernel_spec.specs.Calls.{call_result}
+use Rattle.kernel_spec.proofs.KernelFacts.{none_at_zero, deliverable_lives, given_has_end, dead_after_end, given_raise, live_raise, quiet_hit}
 use Rattle.protocol.specs.Gossip.{Sight, Choice}
+use Rattle.protocol.specs.Deeds.{order_at}
 use Rattle.protocol.specs.Ops.{Ops, Sound, Acted}
 use Rattle.run_laws.specs.Going.{Able}
 use Rattle.node_machine.specs.Plan.{Plan, IsPlan}
 use Rattle.user_spec.specs.Fits.{fits_answer, has_room_at}
-use Rattle.node_machine.specs.Machine.{Policy, machine, serve_at, taken_at, is_hit}
+use Rattle.node_machine.specs.Machine.{Policy, machine, serve_at, taken_at, is_hit, acted}
 use Rattle.node_machine.specs.Policy.{IsFitting}
 use Rattle.node_machine.proofs.Scripts.{stands_once, found, has_image, has_text}
-use Rattle.node_machine.proofs.Users.{asks_call, room_given, room_asked, fits_asks, can_step, one_more, pid_loaded, pid_went, pid_as, pid_entered, pages_as, pages_entered}
+use Rattle.node_machine.proofs.Users.{Calls, asks_call, room_given, room_asked, args_kept, fits_asks, can_step, one_more, pid_loaded, pid_went, pid_as, pid_entered, pages_as, pages_entered}
 use Rattle.node_machine.proofs.Signals.{fits_take}
 use Rattle.node_machine.proofs.Fitting.{answer_fits_user, broken_fits}
-use Rattle.node_machine.proofs.Calls.{served, count_launch, live_launch, live_new, few_launch, count_serve, child_serve, live_serve, live_child, quiet_serve, few_serve, takes, quiet_end, live_end, count_end}
+use Rattle.node_machine.proofs.Calls.{Served, served, count_launch, live_launch, live_new, few_launch, count_serve, child_serve, live_serve, live_child, quiet_serve, few_serve, takes, quiet_end, live_end, count_end}
 
 fits_serve : (k : KernelState) (p : ℕ) (u : UserState) (r : Request) (d : Acted KernelState Answer) → request_of u ≡ Some r → serve_at k p r ≡ Some d → fits_answer u d.answer ≡ true
 fits_serve k p u r d asks e =

@@ -1,6 +1,6 @@
 -- Facts of user states: whose they are, how many pages they have, what they ask, and the room for a frame after a return.
-use Rattle.std.proofs.Common.{◌≡◌, ◌≢◌, ℕ, zero, suc, ◌+◌, ◌<◌, ◌==◌, ◌&&◌, ◌||◌, not, nat_le, nat_lt, List, [], ◌∷◌, length, slice_index, slice_set, refl, ap, ◌∙◌, sym, subst, arith, cond, Option, Some, None, Bool, true, false, Result, Ok, Err}
-use Rattle.std.specs.Prelude.{is_ok}
+use Rattle.std.proofs.Common.{◌≡◌, ◌≢◌, ◌⊎◌, inl, inr, ℕ, zero, suc, ◌+◌, ◌-◌, ◌≤◌, ◌<◌, ◌==◌, ◌&&◌, ◌||◌, not, nat_le, nat_lt, List, [], ◌∷◌, ◌++◌, length, slice_index, slice_set, slice_get, refl, ap, ◌∙◌, sym, subst, arith, cond, Option, Some, None, Bool, true, false, Result, Ok, Err}
+use Rattle.std.specs.Prelude.{is_ok, pos, int_lt}
 use Rattle.std.specs.Result.{result_unwrap_or}
 use Rattle.std.specs.Int.{w32, cast_unsigned}
 use Rattle.std.proofs.lemmas.Bool.Decides.{nat_tests}
@@ -9,6 +9,7 @@ use Rattle.call_table.specs.declared.call.TheConstants.{GETPID, WAIT, OPEN, READ
 use Rattle.call_table.specs.declared.error.TheConstants.{ENOSYS, EFAULT}
 use Rattle.call_table.specs.declared.limit.TheConstants.{STEPS}
 use Rattle.call_table.specs.declared.signal.TheConstants.{SIGXCPU}
+use Rattle.call_table.specs.declared.table.TheConstants.{RIGHT_READ}
 use Rattle.call_table.specs.declared.request.Need.{Need}
 use Rattle.call_table.specs.declared.request.Request.{Request}
 use Rattle.call_table.specs.declared.request.Answer.{Answer}
@@ -17,12 +18,12 @@ use Rattle.call_table.specs.declared.request.Kind.TheVariants.{Plain, Fork, Retu
 use Rattle.call_table.specs.declared.request.Taken.{Taken}
 use Rattle.call_table.specs.declared.request.Taken.TheVariants.{Dies, Enters}
 use Rattle.page_set.specs.Pages.{PageMap, flat_at, with_front, byte_at}
-use Rattle.user_spec.specs.User.{UserState, need_of_user}
+use Rattle.user_spec.specs.User.{UserState, with_register, need_of_user}
 use Rattle.user_spec.specs.declared.outcome.Outcome.{Outcome}
 use Rattle.user_spec.specs.declared.outcome.Outcome.TheVariants as outcome
-use Rattle.user_spec.specs.Instruction.{Core, one_instruction}
+use Rattle.user_spec.specs.Instruction.{Core, Ran, one_instruction}
 use Rattle.user_spec.specs.Request.{number_of, args_of, stack_pointer, buffer_of, buffer_address, buffer_bytes, has_buffer, is_read, handed_bytes, frame_at, frame_words, frame_word, frame_registers, returned_pointer, has_frame_room, returned, returned_as, call_request, fault_request, asked_args, local_call, is_local_call, with_value, with_brk, with_break, is_break, pages_with_break}
-use Rattle.user_spec.specs.Advance.{Went, Done, AtCall, Faults, advance, request_of, asked_at, with_core, went_of, went_by, core_of, advanced, on_done, counted}
+use Rattle.user_spec.specs.Advance.{Went, Done, AtCall, Faults, advance, request_of, asked_at, with_core, went_of, went_by, at_call, core_of, advanced, on_done, counted}
 use Rattle.node_machine.specs.Plan.{user_at}
 use Rattle.user_spec.specs.Fits.{fits_request, fits_fault, fits_call, handed_len, read_len, fits_answer, fits_kind, has_room_at, entered_by}
 use Rattle.node_machine.proofs.Pages.{same_room, len_bytes, len_words}

@@ -1,5 +1,5 @@
 -- What a run is given: its script, a context for each `run` line, the shape of the cluster, and each node's words of chance.
-use Rattle.std.specs.Prelude.{◌≡◌, ◌≤◌, ◌<◌, ℕ, zero, suc, ◌+◌, true, List, [], ◌∷◌, length, slice_get, Some}
+use Rattle.std.specs.Prelude.{◌≡◌, ◌≤◌, ◌<◌, ℕ, zero, suc, ◌+◌, ◌^◌, true, List, [], ◌∷◌, length, slice_get, Some}
 use Rattle.std.specs.FinMap as map
 use Rattle.call_table.specs.Calls.{is_signal_number}
 use Rattle.call_table.specs.declared.limit.TheConstants.{PAGES}

@@ -1,5 +1,5 @@
 -- Policies: what a stored chooser answers, in the words of the laws.
-use Rattle.std.specs.Prelude.{◌≡◌, ◌≢◌, ◌⊎◌, ℕ, Option, Some, None, map}
+use Rattle.std.specs.Prelude.{◌≡◌, ◌≢◌, ◌⊎◌, ℕ, Option, Some, None, List, map}
 use Rattle.std.specs.Option.{option_map}
 use Rattle.call_table.specs.declared.process.Entry as entry_row
 use Rattle.mem_usher.specs.declared.sight.Sight as sight_row

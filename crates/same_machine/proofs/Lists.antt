@@ -1,5 +1,5 @@
 -- Replies, the newest first.
-use Rattle.std.proofs.Common.{◌≡◌, List, [], ◌∷◌, ◌++◌, map, sym, ap}
+use Rattle.std.proofs.Common.{◌≡◌, List, [], ◌∷◌, ◌++◌, map, reverse, sym, ap}
 use Rattle.std.proofs.lemmas.List.{reverse-append}
 use Rattle.call_table.specs.declared.process.Reply3.{Reply3}
 use Rattle.same_machine.specs.Same.{reply_of, replies_of}

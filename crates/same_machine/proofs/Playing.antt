@@ -5,7 +5,7 @@ use Rattle.std.specs.Option.{option_map}
 use Rattle.one_node.specs.declared.step.Step.{Step as OneStep}
 use Rattle.one_node.specs.declared.step.Step.TheVariants as one
 use Rattle.one_node.specs.Machine.{MachineState as OneState, start, played, and_then, machine_step as one_step}
-use Rattle.run_laws.specs.Machine.{empty, machine_step, machine_steps}
+use Rattle.run_laws.specs.Machine.{MachineState, empty, machine_step, machine_steps}
 use Rattle.node_machine.specs.Plan.{Plan}
 use Rattle.node_machine.specs.Machine.{Policy, machine}
 use Rattle.same_machine.specs.Same.{step_of, setup_of, seen_as, PlaysSame}

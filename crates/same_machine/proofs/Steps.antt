@@ -13,7 +13,7 @@ use Rattle.call_table.specs.declared.request.Kind.TheVariants.{Plain, Fork, Retu
 use Rattle.call_table.specs.declared.process.End.TheVariants as ends
 use Rattle.call_table.specs.declared.process.Reply3.{Reply3}
 use Rattle.user_spec.specs.User.{UserState}
-use Rattle.user_spec.specs.Request.{number_of, call_request, returned, forked}
+use Rattle.user_spec.specs.Request.{number_of, call_request, fault_request, returned, forked}
 use Rattle.user_spec.specs.Advance.{Went, Done, AtCall, Faults, advance, advanced, request_of, asked_at}
 use Rattle.user_spec.specs.Fits.{child_of, child_as, entered_by, has_room_at}
 use Rattle.kernel_spec.specs.Pids.{at_pid, set_pid}
@@ -23,10 +23,10 @@ use Rattle.kernel_spec.specs.Others.{child_after, counted as counted_by}
 use Rattle.kernel_spec.proofs.PidLemmas.{length-set_pid}
 use Rattle.kernel_spec.proofs.CallFacts.{call_leaves, end_leaves}
 use Rattle.kernel_spec.proofs.KernelFacts.{given_launch, given_raise, deliverable_lives, take_leaves, take_of_none, take_of_some}
-use Rattle.protocol.specs.Ops.{Acted}
+use Rattle.protocol.specs.Ops.{Ops, Acted}
 use Rattle.run_laws.specs.Machine.{MachineState, launched, raised, fed, stepped, did, broke, took, fell, with_user, with_kernel, with_reply, with_child, blocks}
-use Rattle.one_node.specs.Machine.{MachineState as OneState, live_user, with_answer, children, done_at, done_of, broken_at, broken_of, taken_of, with_taken, fallen, signal_in, with_fall, steps_of, with_user as with_one, typed, asked_by}
-use Rattle.one_node.specs.Machine.{launched as one_launched, raised as one_raised, reply_of as one_reply, with_input}
+use Rattle.one_node.specs.Machine.{MachineState as OneState, live_user, with_answer, children, done_at, done_of, broken_at, broken_of, taken_of, with_taken, fallen, fault_of, signal_in, with_fall, steps_of, with_user as with_one, typed, asked_by, asked_of}
+use Rattle.one_node.specs.Machine.{launched as one_launched, raised as one_raised, blocks as one_blocks, reply_of as one_reply, with_input}
 use Rattle.node_machine.specs.Plan.{Plan, texts, text_at, user_at}
 use Rattle.node_machine.specs.Machine.{Policy, machine, acted, serve_at, taken_at, took_as}
 use Rattle.node_machine.proofs.Users.{call_number}

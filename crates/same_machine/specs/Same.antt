@@ -1,5 +1,5 @@
 -- The one-node machine of the program, seen as the one of the laws.
-use Rattle.std.specs.Prelude.{◌≡◌, List, map, reverse}
+use Rattle.std.specs.Prelude.{◌≡◌, ℕ, List, map, reverse}
 use Rattle.std.specs.Option.{option_map}
 use Rattle.call_table.specs.declared.process.Reply3.{Reply3}
 use Rattle.kernel_spec.specs.Pids.{at_pid}

@@ -1,13 +1,15 @@
 -- A plan is one.
-use Rattle.std.proofs.Common.{◌≡◌, ◌≤◌, ◌<◌, ℕ, zero, suc, ◌+◌, Bool, true, false, cond, Some, [], ◌∷◌, slice_get, refl, sym, ap, ◌∙◌, subst, arith, is_some}
+use Rattle.std.proofs.Common.{◌≡◌, ◌≤◌, ◌<◌, ℕ, zero, suc, ◌+◌, Bool, true, false, cond, Option, Some, None, List, [], ◌∷◌, length, slice_get, refl, sym, ap, ◌∙◌, subst, arith, is_some}
 use Rattle.std.specs.FinMap as map
 use Rattle.std.specs.Ordering.{nat_cmp}
 use Rattle.std.specs.Cmp.{nat_cmp_total}
+use Rattle.call_table.specs.Calls.{is_signal_number}
+use Rattle.node_event.specs.declared.script.Order.{Order}
 use Rattle.node_event.specs.declared.script.Order.TheVariants as order
 use Rattle.node_event.specs.declared.script.ScriptLine.{ScriptLine}
 use Rattle.page_set.specs.Pages.{Page, PageMap}
-use Rattle.user_spec.specs.User.{UserState}
-use Rattle.node_machine.specs.Plan.{IsPlan, IsLoaded}
+use Rattle.user_spec.specs.User.{UserState, need_of_user}
+use Rattle.node_machine.specs.Plan.{Plan, IsPlan, IsLoaded}
 use Rattle.worked_plays.specs.Programs.{Memory, pages_of, image_page, stack_page, user_of, hello, hello_script, hello_plan}
 
 one_more : (b : Bool) (n : ℕ) → cond b n (n + 1) ≤ n + 1

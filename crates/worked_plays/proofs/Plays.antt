@@ -1,5 +1,5 @@
 -- The one-node machine over user states of two pages, computed.
-use Rattle.std.proofs.Common.{◌≡◌, ℕ, zero, suc, ◌+◌, ◌==◌, ◌&&◌, Bool, true, false, cond, Option, Some, None, List, [], ◌∷◌, ◌++◌, length, refl, sym, ap, ◌∙◌, subst, arith}
+use Rattle.std.proofs.Common.{◌≡◌, ◌≢◌, ◌⊎◌, inl, inr, ℕ, zero, suc, ◌+◌, ◌==◌, ◌&&◌, not, Bool, true, false, cond, Option, Some, None, List, [], ◌∷◌, ◌++◌, length, map, slice_get, refl, sym, ap, ◌∙◌, subst, arith}
 use Rattle.std.specs.Prelude.{nat_lt, option_and_then}
 use Rattle.std.specs.Option.{option_map}
 use Rattle.std.proofs.lemmas.Bool.Decides.{nat_tests}
@@ -7,15 +7,16 @@ use Rattle.call_table.specs.Calls.{is_signal_number}
 use Rattle.call_table.specs.declared.error.TheConstants.{EINTR}
 use Rattle.call_table.specs.declared.request.Request.{Request}
 use Rattle.call_table.specs.declared.request.Answer.{Answer}
+use Rattle.call_table.specs.declared.request.Taken.{Taken}
 use Rattle.user_spec.specs.User.{UserState}
-use Rattle.user_spec.specs.Request.{returned, forked}
-use Rattle.user_spec.specs.Advance.{Went, advanced, request_of, asked_at}
+use Rattle.user_spec.specs.Request.{call_request, returned, forked}
+use Rattle.user_spec.specs.Advance.{Went, AtCall, advance, advanced, request_of, asked_at}
 use Rattle.user_spec.specs.Fits.{entered_by, has_room_at}
 use Rattle.kernel_spec.specs.Pids.{at_pid, set_pid}
-use Rattle.kernel_spec.specs.Kernel.{KernelState, no_process, given, is_live, has_room, with_process, with_raised, deliverable, value_answer}
-use Rattle.protocol.specs.Ops.{Acted}
+use Rattle.kernel_spec.specs.Kernel.{KernelState, AfterTake, no_process, given, is_live, has_room, with_process, with_raised, deliverable, take_result, value_answer, fed}
+use Rattle.protocol.specs.Ops.{Acted, Took}
 use Rattle.run_laws.specs.Machine.{ReplyGiven, Step, Launch, Raise, Feed, Eof, Advance, Do, Break, Take, Fall, MachineState, empty, with_user, with_kernel, with_reply, with_child, blocks, machine_step, machine_steps, play}
-use Rattle.node_machine.specs.Plan.{texts, text_at}
+use Rattle.node_machine.specs.Plan.{Plan, texts, text_at, user_at}
 use Rattle.node_machine.specs.Machine.{machine, serve_at, taken_at, fed_with, finished}
 use Rattle.node_machine.specs.Policy.{never}
 use Rattle.node_machine.proofs.Places.{set_at, push_at}

@@ -1,5 +1,5 @@
 -- User states of two pages, computed: what they read, write, step and ask.
-use Rattle.std.proofs.Common.{◌≡◌, ◌≢◌, inl, inr, ℕ, zero, suc, ◌+◌, ◌*◌, ◌/◌, ◌%◌, ◌^◌, ◌==◌, ◌&&◌, ◌||◌, not, nat_le, Bool, true, false, cond, Option, Some, None, Result, Ok, Err, List, [], ◌∷◌, slice_index, slice_set, refl, sym, ap, ◌∙◌, arith}
+use Rattle.std.proofs.Common.{◌≡◌, ◌≢◌, ◌⊎◌, inl, inr, ℕ, zero, suc, ◌+◌, ◌*◌, ◌/◌, ◌%◌, ◌^◌, ◌==◌, ◌&&◌, ◌||◌, not, nat_le, Bool, true, false, cond, Option, Some, None, Result, Ok, Err, List, [], ◌∷◌, ◌++◌, slice_index, slice_set, refl, sym, ap, ◌∙◌, subst, arith}
 use Rattle.std.specs.Prelude.{is_ok, option_and_then}
 use Rattle.std.specs.Result.{result_unwrap_or}
 use Rattle.std.specs.Int.{w32, cast_unsigned}
@@ -19,14 +19,15 @@ use Rattle.call_table.specs.declared.request.Kind.{Kind}
 use Rattle.call_table.specs.declared.request.Kind.TheVariants.{Plain, Fork, Return}
 use Rattle.call_table.specs.declared.request.Taken.{Taken}
 use Rattle.call_table.specs.declared.request.Taken.TheVariants.{Dies, Enters}
-use Rattle.page_set.specs.Pages.{Page, PageMap, byte_of, with_front, bytes_along, number_of as number_in, loaded, page_with_byte, changed_page, with_byte, with_bytes, bytes_4}
+use Rattle.page_set.specs.Pages.{Page, PageMap, byte_of, byte_at, with_front, bytes_along, number_of as number_in, loaded, flat_at, page_with_byte, changed_page, with_byte, with_bytes, bytes_4}
 use Rattle.page_set.proofs.Maps.{get_inserted, get_inserted_other}
 use Rattle.user_spec.specs.Words.{sum_of}
 use Rattle.user_spec.specs.User.{UserState, with_register}
 use Rattle.user_spec.specs.declared.effect.Effect.{Effect}
 use Rattle.user_spec.specs.declared.effect.Effect.TheVariants.{Sets, Loads, Stores, Calls, Raises}
+use Rattle.user_spec.specs.declared.effect.Form.{Form}
 use Rattle.user_spec.specs.declared.effect.Form.TheVariants.{SignedByte, SignedHalf, Word, Byte, Half}
-use Rattle.user_spec.specs.Instruction.{fetched_effect, next_effect, with_loaded, applied, one_instruction}
+use Rattle.user_spec.specs.Instruction.{Core, Ran, fetched_effect, next_effect, with_loaded, load_as, applied, one_instruction}
 use Rattle.user_spec.specs.Request.{number_of, args_of, stack_pointer, buffer_of, buffer_address, buffer_bytes, is_read, frame_at, frame_words, frame_word, frame_registers, has_frame_room, with_words, entered, returned, returned_as, call_request, forked}
 use Rattle.user_spec.specs.Advance.{Went, Done, AtCall, Faults, advance, went_of, core_of, advanced, on_done, request_of, asked_at}
 use Rattle.user_spec.specs.Fits.{entered_by, has_room_at}

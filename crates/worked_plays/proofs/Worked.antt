@@ -1,5 +1,5 @@
 -- The worked programs show what is said of them.
-use Rattle.std.proofs.Common.{◌≡◌, ℕ, false, Option, Some, None, List, [], ◌∷◌, refl, ap, ◌∙◌}
+use Rattle.std.proofs.Common.{◌≡◌, ℕ, false, Option, Some, None, List, [], ◌∷◌, refl, sym, ap, ◌∙◌}
 use Rattle.std.specs.Prelude.{option_and_then}
 use Rattle.std.specs.Option.{option_map}
 use Rattle.call_table.specs.declared.request.Request.{Request}
@@ -8,6 +8,7 @@ use Rattle.node_event.specs.declared.script.ScriptLine.{ScriptLine}
 use Rattle.user_spec.specs.Advance.{Went, request_of, asked_at}
 use Rattle.kernel_spec.specs.Pids.{at_pid}
 use Rattle.kernel_spec.specs.Kernel.{KernelState, deliverable}
+use Rattle.run_laws.specs.Machine.{Step, MachineState, play}
 use Rattle.run_laws.specs.Schedule.{schedule}
 use Rattle.run_laws.specs.Ends.{live_state, blocked_by, blocked_number}
 use Rattle.run_laws.specs.Histories.{read}

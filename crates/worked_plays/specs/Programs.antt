@@ -1,13 +1,15 @@
 -- Worked programs: their user states, their histories, and what the one-node machine then shows. The events stand the oldest first.
-use Rattle.std.specs.Prelude.{◌≡◌, ℕ, suc, ℤ, pos, negsuc, true, false, Some, None, List, [], ◌∷◌, replicate}
+use Rattle.std.specs.Prelude.{◌≡◌, ℕ, zero, suc, ℤ, pos, negsuc, true, false, Some, None, Option, List, [], ◌∷◌, replicate}
 use Rattle.std.specs.Option.{option_map}
 use Rattle.std.specs.FinMap as map
 use Rattle.call_table.specs.declared.process.End.TheVariants as end
 use Rattle.call_table.specs.declared.process.PidState.{PidState}
 use Rattle.call_table.specs.declared.process.PidState.TheVariants as state
 use Rattle.node_event.specs.declared.event.Event.{Event}
+use Rattle.node_event.specs.declared.event.What.{What}
 use Rattle.node_event.specs.declared.event.What.TheVariants as what
 use Rattle.node_event.specs.declared.event.Way.TheVariants as way
+use Rattle.node_event.specs.declared.script.Order.{Order}
 use Rattle.node_event.specs.declared.script.Order.TheVariants as order
 use Rattle.node_event.specs.declared.script.ScriptLine.{ScriptLine}
 use Rattle.page_set.specs.Pages.{Page, PageMap}
