@@ -11,8 +11,6 @@ mod posting;
 mod row;
 mod rows;
 mod serving;
-#[cfg(test)]
-mod tests;
 
 pub use deputies::Deputies;
 pub use row::{HeldCall, Row};
