@@ -3,6 +3,7 @@ use Rattle.std.proofs.Common.{◌≡◌, ◌≢◌, ℕ, zero, suc, ◌+◌, ◌
 use Rattle.std.specs.Prelude.{◌-◌, reverse}
 use Rattle.std.proofs.lemmas.List.{reverse-reverse}
 use Rattle.node_event.specs.declared.script.ScriptLine.{ScriptLine}
+use Rattle.call_forward.specs.declared.letter.Letter.{Letter}
 use Rattle.user_spec.specs.User.{UserState}
 use Rattle.kernel_spec.specs.Pids.{at_pid}
 use Rattle.deputy.specs.declared.row.Row.{Row}
@@ -41,3 +42,15 @@ pub new_suits_ok : {E : Type 0} (id : ℕ) (shape : Shape) (script : List Script
     → IfOk r (λ (n : Node). (run : Plan) → Beginning run id shape script users → Suits run n)
 new_suits_ok id shape script users (Ok n) is = λ run b. new_suits_of run id shape script users n is b
 new_suits_ok id shape script users (Err e) is = tt
+
+-- what is taken out of the outbox is not missed
+pub suits_out : (plan : Plan) (n : Node) (outbox : List Letter) → Suits plan n → Suits plan (record n { outbox = outbox })
+suits_out plan n outbox s = record {
+  is_plan = s.is_plan;
+  below = s.below;
+  shape = s.shape;
+  room = s.room;
+  within = record { clock = s.within.clock; served = s.within.served; sent = s.within.sent; steps = s.within.steps };
+  course = s.course;
+  chance = s.chance;
+}

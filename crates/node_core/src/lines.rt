@@ -195,6 +195,23 @@ impl Node {
         Ok(acted)
     }
 
+    /// The next line's text is typed. None where that line has none.
+    fn feed(&mut self, alloc: Global) -> Result<Option<Acted>, NoMemory>
+        requires { self.old.course.done < length self.old.course.script }
+        ensures { IfOk result (λ acted. TasksSome (task_at (slice_get self.old.course.script self.old.course.done)) acted self.old self.new) }
+    {
+        let Some(next) = self.course.script.get(self.course.done) else {
+            return Ok(None);
+        };
+        let line = next.line;
+        let Order::Feed { text } = &next.order else {
+            return Ok(None);
+        };
+        self.deputies.feed(text.as_slice())?;
+        self.course.advance(line);
+        Ok(Some(passed(alloc, line)))
+    }
+
     /// Nothing more is typed.
     fn end_input(&mut self, alloc: Global, line: u32) -> Acted
         requires { self.old.course.done < length self.old.course.script }
@@ -231,6 +248,10 @@ impl Node {
                 let acted = self.order_move(alloc, line, pid, to)?;
                 Ok(Some(acted))
             }
+            Some((_, Task::Feed)) => {
+                let acted = self.feed(alloc)?;
+                Ok(acted)
+            }
             Some((line, Task::End)) => {
                 let acted = self.end_input(alloc, line);
                 Ok(Some(acted))
@@ -239,7 +260,7 @@ impl Node {
                 let acted = self.pass(alloc, line);
                 Ok(Some(acted))
             }
-            _ => Ok(None),
+            None => Ok(None),
         }
     }
 }
