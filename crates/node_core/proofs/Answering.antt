@@ -1,7 +1,6 @@
 -- What a turn answers.
-use Rattle.std.proofs.Common.{◌≡◌, ◌≢◌, ◌⊎◌, inl, inr, ℕ, ◌+◌, ◌<◌, ◌≤◌, Bool, true, false, Option, Some, None, length, refl, sym, ap, ◌∙◌, subst, arith}
+use Rattle.std.proofs.Common.{◌≡◌, ◌⊎◌, inl, inr, Some, None, length, refl, sym, ap, ◌∙◌}
 use Rattle.call_forward.specs.declared.letter.Letter.{Letter}
-use Rattle.kernel_spec.specs.Kernel.{is_live}
 use Rattle.protocol.specs.Rests.{IsIdle, IsFinished, Finished as LawFinished}
 use Rattle.node_machine.specs.Plan.{Plan}
 use Rattle.node_machine.specs.Machine.{Policy, machine}

@@ -1,19 +1,17 @@
 -- What contexts do in a turn is a turn by the laws.
-use Rattle.std.proofs.Common.{◌≡◌, ◌≢◌, ◌⊎◌, inl, inr, ℕ, zero, suc, ◌+◌, ◌<◌, ◌≤◌, ◌==◌, cond, not, Bool, true, false, Option, Some, None, List, [], ◌∷◌, ◌++◌, map, length, refl, sym, ap, ◌∙◌, subst, arith}
+use Rattle.std.proofs.Common.{◌≡◌, ◌⊎◌, inl, inr, ℕ, ◌+◌, ◌<◌, ◌≤◌, ◌==◌, Bool, true, false, Option, Some, None, List, [], ◌∷◌, length, refl, sym, ap, ◌∙◌, subst, arith}
 use Rattle.std.specs.Prelude.{◌-◌, ◌^◌, max, min}
 use Rattle.std.specs.Option.{option_map}
 use Rattle.call_forward.specs.declared.acted.Acted.{Acted}
 use Rattle.call_forward.specs.declared.message.Message.TheVariants as message
 use Rattle.node_event.specs.declared.event.What.TheVariants as what
-use Rattle.user_spec.specs.User.{UserState}
 use Rattle.user_spec.specs.Fits.{has_room_at}
 use Rattle.remote_ctx.specs.declared.context.Context as code_context
 use Rattle.remote_ctx.specs.declared.context.Stance.{Stance}
 use Rattle.remote_ctx.specs.declared.context.Stance.TheVariants as stance
-use Rattle.remote_ctx.specs.Hosted.{lookup, Puts, is_running, runs_as, runs_at}
+use Rattle.remote_ctx.specs.Hosted.{lookup, is_running, runs_as, runs_at}
 use Rattle.remote_ctx.specs.Acting as acting
-use Rattle.protocol.specs.Deeds.{deed_of}
-use Rattle.protocol.specs.Notes.{Kept, Running, Waiting, Body, context, Post, letter, Poke}
+use Rattle.protocol.specs.Notes.{Kept, Running, Waiting, context, Post, letter, Poke}
 use Rattle.protocol.specs.Does.{Awake, Asleep, Unfit}
 use Rattle.protocol.specs.Odd.{stamp_end}
 use Rattle.node_machine.specs.Plan.{Plan}

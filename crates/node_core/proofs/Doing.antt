@@ -1,6 +1,6 @@
 -- What functions of a node did, put together from what the functions that they call did.
-use Rattle.std.proofs.Common.{◌≡◌, ◌≢◌, ◌⊎◌, inl, inr, ℕ, ◌+◌, ◌<◌, ◌≤◌, cond, Bool, true, false, Option, Some, None, List, [], ◌∷◌, ◌++◌, length, slice_get, refl, sym, ap, ◌∙◌, subst, arith}
-use Rattle.std.specs.Prelude.{◌-◌, ◌^◌, max, unwrap_or}
+use Rattle.std.proofs.Common.{◌≡◌, ◌⊎◌, inl, inr, ℕ, ◌<◌, ◌≤◌, Bool, true, false, Option, Some, None, List, [], ◌∷◌, ◌++◌, length, refl, sym, ap, ◌∙◌, subst}
+use Rattle.std.specs.Prelude.{max, unwrap_or}
 use Rattle.std.specs.Bool.{MatchBool}
 use Rattle.std.specs.Option.{option_map}
 use Rattle.call_forward.specs.declared.acted.Acted.{Acted}
@@ -33,7 +33,7 @@ use Rattle.node_core.specs.Rotation.{picked, rotated}
 use Rattle.node_core.specs.Turns.{settled_in}
 use Rattle.node_core.specs.Kinds.{BeginsMove, IsReady, IsStrange, OnHosted, HearsHere, HearsReply, GoActs, answer_at, is_misplaced, is_stray, stepped, ContextActs, RunsContext, TaskActs, LineActs, CarriesOut, Launches, advanced}
 use Rattle.node_core.specs.Kinds as kinds
-use Rattle.node_core.specs.Turning.{is_odd, IsStamp, HearsAny, Heard, Passed, Picks, Went}
+use Rattle.node_core.specs.Turning.{is_odd, IsStamp, HearsAny, Heard, Passed, Went}
 
 -- ---- a move begins
 

@@ -1,17 +1,16 @@
 -- What a call comes to, before a signal is taken, in the words of the laws.
-use Rattle.std.proofs.Common.{◌≡◌, ◌≢◌, ◌⊎◌, inl, inr, ℕ, zero, suc, ◌+◌, ◌<◌, ◌≤◌, ◌==◌, ◌&&◌, ◌||◌, cond, not, Bool, true, false, Option, Some, None, List, [], ◌∷◌, ◌++◌, length, refl, sym, ap, ◌∙◌, subst, arith}
-use Rattle.std.specs.Prelude.{is_some, is_none, ℤ, pos, int_lt, slice_index}
+use Rattle.std.proofs.Common.{◌≡◌, ◌≢◌, ℕ, zero, suc, ◌+◌, ◌==◌, ◌&&◌, ◌||◌, cond, Bool, true, false, Option, Some, None, List, length, refl, sym, ap, ◌∙◌, subst, arith}
+use Rattle.std.specs.Prelude.{ℤ, pos, int_lt, slice_index}
 use Rattle.std.specs.Option.{option_map}
 use Rattle.call_table.specs.Calls.{need_of}
-use Rattle.call_table.specs.declared.call.TheConstants.{FORK}
 use Rattle.call_table.specs.declared.request.Answer.{Answer}
 use Rattle.call_table.specs.declared.request.Need.{Need}
 use Rattle.call_table.specs.declared.request.Kind.{Kind}
 use Rattle.call_table.specs.declared.request.Kind.TheVariants.{Plain, Fork, Return}
 use Rattle.call_table.specs.declared.request.Request.{Request}
-use Rattle.kernel_spec.specs.Kernel.{KernelState, Called, deliverable, given, is_live}
+use Rattle.kernel_spec.specs.Kernel.{KernelState, Called, deliverable, given}
 use Rattle.kernel_spec.specs.Calls.{call_result, call_row, fork_to, fork_result}
-use Rattle.kernel_spec.specs.Answers.{fits_answer, fits_kind}
+use Rattle.kernel_spec.specs.Answers.{fits_kind}
 use Rattle.kernel_spec.specs.Others as others
 use Rattle.kernel_spec.proofs.AnswerFacts.{answer_fits}
 use Rattle.kernel_spec.proofs.CallFacts.{call_leaves}
@@ -19,8 +18,8 @@ use Rattle.user_spec.specs.Fits.{child_of, child_as}
 use Rattle.user_spec.specs.Fits.{positive as user_positive}
 use Rattle.deputy.specs.Calls as calls
 use Rattle.deputy.specs.Rows.{is_fork, is_fork_kind}
-use Rattle.protocol.specs.Deeds.{Manner, manner_of, born_of, positive}
-use Rattle.protocol.specs.Home.{First, Acts}
+use Rattle.protocol.specs.Deeds.{manner_of, born_of, positive}
+use Rattle.protocol.specs.Home.{Acts}
 use Rattle.protocol.proofs.Talk.{numbers_same, numbers_other}
 use Rattle.proc_tree.specs.Tree.{next_pid_of}
 use Rattle.node_machine.specs.Plan.{Plan}

@@ -1,12 +1,11 @@
 -- A turn without a letter: what is due, and that it is a turn by the laws.
-use Rattle.std.proofs.Common.{◌≡◌, ◌≢◌, ◌⊎◌, inl, inr, ℕ, zero, suc, ◌+◌, ◌<◌, ◌≤◌, ◌==◌, ◌&&◌, ◌||◌, cond, not, nat_lt, Bool, true, false, Option, Some, None, List, [], ◌∷◌, ◌++◌, map, length, slice_get, refl, sym, ap, ◌∙◌, subst, arith}
-use Rattle.std.specs.Prelude.{◌-◌, ◌^◌, max, nat_le, is_some, reverse, MatchOption}
+use Rattle.std.proofs.Common.{◌≡◌, ◌≢◌, ◌⊎◌, inl, inr, ℕ, ◌+◌, ◌<◌, ◌≤◌, ◌==◌, ◌&&◌, ◌||◌, cond, not, nat_lt, Bool, true, false, Option, Some, None, List, [], ◌∷◌, length, slice_get, refl, sym, ap, ◌∙◌, subst, arith}
+use Rattle.std.specs.Prelude.{◌-◌, ◌^◌, max, nat_le, is_some, MatchOption}
 use Rattle.std.specs.Bool.{MatchBool}
 use Rattle.std.specs.List.{find}
 use Rattle.std.specs.Option.{option_map}
 use Rattle.std.proofs.lemmas.Bool.Decides.{nat_tests}
 use Rattle.call_forward.specs.declared.acted.Acted.{Acted}
-use Rattle.call_forward.specs.declared.letter.Letter.{Letter}
 use Rattle.node_event.specs.declared.script.Order.{Order}
 use Rattle.node_event.specs.declared.script.Order.TheVariants as order
 use Rattle.node_event.specs.declared.script.ScriptLine.{ScriptLine}
@@ -25,14 +24,13 @@ use Rattle.protocol.specs.Home.{HasEnded, live_of, unheld}
 use Rattle.protocol.specs.Notes.{State, Running, Body, Context, context, Called as LawCalled}
 use Rattle.protocol.specs.Does.{EnabledHere}
 use Rattle.protocol.specs.Odd.{stamp_end}
-use Rattle.protocol.specs.Rests.{Kind, Retry, RunOn, NextLine, SendHalf, MayGoOn, RunsHere, LineReady, Applies, Rests}
+use Rattle.protocol.specs.Rests.{Kind, Retry, RunOn, NextLine, SendHalf, MayGoOn, LineReady, Applies, Rests}
 use Rattle.protocol.proofs.Talk.{numbers_same, same_numbers}
 use Rattle.node_machine.specs.Plan.{Plan}
 use Rattle.node_machine.specs.Machine.{Policy, machine, serve_at, acted as acted_by, launched}
 use Rattle.node_core.specs.declared.node.Node.{Node}
 use Rattle.node_core.specs.declared.rotation.Kind as code_kind
 use Rattle.node_core.specs.declared.rotation.Kind.TheVariants as kind
-use Rattle.node_core.specs.declared.rotation.Ready.{Ready}
 use Rattle.node_core.specs.declared.rotation.Rotation.{Rotation}
 use Rattle.node_core.specs.Locals.{local, slot_of, called_of, context_of, body_of, state_of}
 use Rattle.node_core.specs.Suits.{Suits}
@@ -40,8 +38,8 @@ use Rattle.node_core.specs.Rotation.{rotated}
 use Rattle.node_core.specs.Kinds.{IsReady, has_ended, is_enabled, line_enabled, CarriesOut, RunsContext, ContextActs, TaskActs, LineActs, task_of, task_at, OnHosted}
 use Rattle.node_core.specs.Kinds as kinds
 use Rattle.node_core.specs.Turns.{Made}
-use Rattle.node_core.specs.Turning.{Picks, Went, IsStamp}
-use Rattle.node_core.proofs.Settling.{Acts, moved, recorded_made}
+use Rattle.node_core.specs.Turning.{Picks, Went}
+use Rattle.node_core.proofs.Settling.{Acts, recorded_made}
 use Rattle.node_core.proofs.Contexts.{sent_acts, heeded_acts, stepped_acts}
 use Rattle.node_core.proofs.Firsts.{serve_is}
 use Rattle.node_core.proofs.Home.{live_given, above_zero}

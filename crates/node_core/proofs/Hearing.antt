@@ -1,8 +1,7 @@
 -- A letter that a node takes is a turn by the laws.
-use Rattle.std.proofs.Common.{◌≡◌, ◌≢◌, ◌⊎◌, inl, inr, ℕ, zero, suc, ◌+◌, ◌<◌, ◌≤◌, ◌==◌, ◌&&◌, ◌||◌, cond, not, nat_lt, Bool, true, false, Option, Some, None, List, [], ◌∷◌, ◌++◌, map, length, refl, sym, ap, ◌∙◌, subst, arith, IfSome}
+use Rattle.std.proofs.Common.{◌≡◌, ◌≢◌, ◌⊎◌, inl, inr, ℕ, ◌+◌, ◌<◌, ◌≤◌, ◌==◌, ◌&&◌, ◌||◌, cond, not, nat_lt, Bool, true, false, Option, Some, None, List, [], ◌∷◌, length, refl, sym, ap, ◌∙◌, subst, arith}
 use Rattle.std.specs.Prelude.{◌-◌, ◌^◌, max, nat_le}
 use Rattle.std.specs.Bool.{MatchBool}
-use Rattle.std.specs.Option.{option_map}
 use Rattle.std.specs.List.{flat_map, list_all}
 use Rattle.std.proofs.lemmas.Bool.Decides.{nat_tests}
 use Rattle.call_table.specs.declared.process.Entry as code_entry
@@ -11,10 +10,8 @@ use Rattle.call_forward.specs.declared.letter.Letter.{Letter}
 use Rattle.call_forward.specs.declared.message.Message.{Message}
 use Rattle.call_forward.specs.declared.message.Message.TheVariants as message
 use Rattle.call_forward.specs.Messages.{is_to_home, nodes_of, node_of_entry, are_below}
-use Rattle.node_event.specs.declared.event.What.TheVariants as what
 use Rattle.protocol.specs.Gossip.{FarPlaces}
-use Rattle.protocol.specs.Notes.{letter, Post}
-use Rattle.protocol.specs.Does.{Unfit, Misfit, FarNode, next_stamp}
+use Rattle.protocol.specs.Does.{Unfit, Misfit, FarNode}
 use Rattle.protocol.specs.Odd.{IsOdd, ManyHops, stamp_end, hops_end}
 use Rattle.protocol.proofs.Talk.{numbers_same, numbers_other}
 use Rattle.node_machine.specs.Plan.{Plan}
@@ -23,9 +20,9 @@ use Rattle.node_core.specs.declared.node.Node.{Node}
 use Rattle.node_core.specs.Locals.{local, note_of, places_of, post_at, post_of}
 use Rattle.node_core.specs.Suits.{Suits}
 use Rattle.node_core.specs.Kinds.{is_misplaced, IsStrange, HearsHere}
-use Rattle.node_core.specs.Turns.{Made, PassedOver, one_more, is_strange, skipped_in, recorded_in, settled_in}
-use Rattle.node_core.specs.Turning.{is_odd, has_many_hops, IsStamp, HearsAny, Heard, Passed}
-use Rattle.node_core.proofs.Settling.{Acts, Hears, Fits, Misfits, recorded_made, skipped_made, suits_skipped}
+use Rattle.node_core.specs.Turns.{Made, PassedOver, one_more, is_strange, skipped_in, recorded_in}
+use Rattle.node_core.specs.Turning.{has_many_hops, HearsAny, Heard, Passed}
+use Rattle.node_core.proofs.Settling.{Hears, Fits, Misfits, recorded_made, skipped_made, suits_skipped}
 use Rattle.node_core.proofs.Home.{call_hears, pause_hears}
 use Rattle.node_core.proofs.Contexts.{poke_hears}
 use Rattle.node_core.proofs.Moving.{go_hears}

@@ -1,10 +1,7 @@
 -- What home does with calls and pauses is a turn by the laws.
-use Rattle.std.proofs.Common.{◌≡◌, ◌≢◌, ◌⊎◌, inl, inr, ℕ, zero, suc, ◌+◌, ◌<◌, ◌≤◌, ◌==◌, ◌&&◌, cond, not, Bool, true, false, Option, Some, None, List, [], ◌∷◌, ◌++◌, map, length, slice_get, refl, sym, ap, ◌∙◌, subst, arith}
-use Rattle.std.specs.Prelude.{◌-◌, ◌^◌, min, is_some, is_none, reverse, ℤ}
+use Rattle.std.proofs.Common.{◌≡◌, ◌≢◌, ◌⊎◌, inl, inr, ℕ, zero, suc, ◌+◌, ◌<◌, ◌≤◌, ◌==◌, ◌&&◌, cond, Bool, true, false, Option, Some, None, List, [], ◌∷◌, length, slice_get, refl, sym, ap, ◌∙◌, subst, arith}
+use Rattle.std.specs.Prelude.{◌-◌, ◌^◌, is_some, is_none, reverse, ℤ}
 use Rattle.std.specs.Option.{option_map, option_map_or}
-use Rattle.call_table.specs.Calls.{need_of, is_site_local}
-use Rattle.call_table.specs.declared.call.TheConstants.{SIGRETURN}
-use Rattle.call_table.specs.declared.request.Need.{Need}
 use Rattle.proc_tree.specs.declared.process.Process.{Process}
 use Rattle.user_spec.specs.Fits as user_fits
 use Rattle.call_forward.specs.declared.message.Message.{Message}
@@ -13,18 +10,16 @@ use Rattle.call_table.specs.declared.process.End.{End}
 use Rattle.call_table.specs.declared.request.Request.{Request}
 use Rattle.call_forward.specs.declared.acted.Acted.{Acted}
 use Rattle.call_forward.specs.declared.message.Message.TheVariants as message
-use Rattle.node_event.specs.declared.event.What.{What}
 use Rattle.node_event.specs.declared.event.What.TheVariants as what
 use Rattle.node_event.specs.declared.event.Way.{Way}
 use Rattle.node_event.specs.declared.event.Way.TheVariants as way
 use Rattle.kernel_spec.specs.Pids.{at_pid, changed_pid}
 use Rattle.kernel_spec.specs.Kernel.{KernelState, deliverable, end_at, is_live, given}
-use Rattle.kernel_spec.proofs.KernelFacts.{none_at_zero}
 use Rattle.deputy.specs.declared.row.Row.{Row}
 use Rattle.deputy.specs.declared.row.HeldCall.{HeldCall}
 use Rattle.deputy.specs.Rows.{HomeState, held_of, served_of, held_at, served_at, holding, counted, is_fork, with_born}
 use Rattle.deputy.specs.Calls as calls
-use Rattle.protocol.specs.Deeds.{Deed, deed_of, manner_of, born_of, Served, Paused, Manner}
+use Rattle.protocol.specs.Deeds.{Deed, deed_of, manner_of, born_of, Served, Paused}
 use Rattle.protocol.specs.Notes.{Turn, Local, Post, letter, Call, Pause, SameProgress, served_one}
 use Rattle.protocol.specs.Home.{last, Last}
 use Rattle.protocol.specs.Does as does
@@ -33,14 +28,14 @@ use Rattle.protocol.specs.Odd.{stamp_end}
 use Rattle.node_machine.specs.Plan.{Plan}
 use Rattle.node_machine.specs.Machine.{Policy, machine}
 use Rattle.node_core.specs.declared.node.Node.{Node}
-use Rattle.node_core.specs.Locals.{local, slot_of, slot_with, called_of, believed_of, note_of}
+use Rattle.node_core.specs.Locals.{local, slot_of, called_of, believed_of, note_of}
 use Rattle.node_core.specs.Suits.{SuitsAt, Suits}
 use Rattle.node_core.specs.Kinds.{OnHome}
 use Rattle.node_core.proofs.Settling.{Acts, Hears, Fits, Misfits, at_clock, turn_at}
 use Rattle.node_core.proofs.Signals.{served_is, last_is}
 use Rattle.run_laws.specs.Carried.{IsUsual}
 use Rattle.node_core.proofs.Slots.{cond_same}
-use Rattle.node_core.proofs.Rows.{Birth, by_same, row_of, at_changed, served_held, served_count, served_believed, is_none_same, kept_row, new_row_at}
+use Rattle.node_core.proofs.Rows.{Birth, by_same, row_of, served_held, served_count, served_believed, is_none_same, kept_row, new_row_at}
 use Rattle.node_core.proofs.Serving.{first_in, pokes_same, mail_same, answers_same}
 use Rattle.node_core.proofs.Firsts.{Comes, comes, Waits, waits}
 

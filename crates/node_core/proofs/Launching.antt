@@ -1,19 +1,17 @@
 -- What home does with a line of the script is a turn by the laws.
-use Rattle.std.proofs.Common.{◌≡◌, ◌≢◌, ◌⊎◌, inl, inr, ℕ, zero, suc, ◌+◌, ◌<◌, ◌≤◌, ◌==◌, ◌&&◌, cond, not, Bool, true, false, Option, Some, None, List, [], ◌∷◌, ◌++◌, map, length, take, slice_get, refl, sym, ap, ◌∙◌, subst, arith}
-use Rattle.std.specs.Prelude.{is_some, reverse, nat_lt}
+use Rattle.std.proofs.Common.{◌≡◌, ℕ, ◌+◌, ◌<◌, ◌≤◌, ◌==◌, cond, Bool, true, false, Option, Some, None, List, [], ◌∷◌, ◌++◌, length, take, slice_get, refl, sym, ap, ◌∙◌, subst, arith}
+use Rattle.std.specs.Prelude.{reverse}
 use Rattle.std.specs.Option.{option_map}
 use Rattle.std.specs.FinMap as fin_map
 use Rattle.std.proofs.lemmas.List.{reverse-append, length-append}
 use Rattle.call_forward.specs.declared.acted.Acted.{Acted}
-use Rattle.node_event.specs.declared.event.What.{What}
 use Rattle.node_event.specs.declared.event.What.TheVariants as what
 use Rattle.node_event.specs.declared.event.Unsent as unsent_type
-use Rattle.node_event.specs.declared.script.Order.{Order}
 use Rattle.node_event.specs.declared.script.Order.TheVariants as order
 use Rattle.node_event.specs.declared.script.ScriptLine.{ScriptLine}
 use Rattle.user_spec.specs.User.{UserState}
 use Rattle.kernel_spec.specs.Pids.{at_pid}
-use Rattle.kernel_spec.specs.Kernel.{KernelState, given, has_room, with_process}
+use Rattle.kernel_spec.specs.Kernel.{given, with_process}
 use Rattle.kernel_spec.proofs.KernelFacts.{given_launch}
 use Rattle.remote_ctx.specs.declared.context.Context as code_context
 use Rattle.remote_ctx.specs.Hosted.{lookup, Puts}
@@ -21,13 +19,11 @@ use Rattle.remote_ctx.specs.Acting.{fresh}
 use Rattle.deputy.specs.declared.row.Row.{Row}
 use Rattle.deputy.specs.Rows.{HomeState, new_row, held_of, served_of, served_at}
 use Rattle.protocol.specs.Deeds.{Deed, deed_of, command_deed, run_deed, Run, order_at, runs_before, feeds_before}
-use Rattle.protocol.specs.Notes.{Running, context, fresh as fresh_body, SameProgress}
-use Rattle.protocol.specs.Does as does
+use Rattle.protocol.specs.Notes.{Running, context, fresh as fresh_body}
 use Rattle.protocol.specs.Does.{Does, hosts}
 use Rattle.protocol.specs.Odd.{stamp_end}
-use Rattle.protocol.proofs.Talk.{numbers_same}
 use Rattle.run_laws.specs.Carried.{IsUsual}
-use Rattle.node_machine.specs.Plan.{Plan, IsPlan, run_count, user_at}
+use Rattle.node_machine.specs.Plan.{Plan, run_count, user_at}
 use Rattle.node_machine.specs.Machine.{Policy, machine, launched}
 use Rattle.node_machine.proofs.Scripts.{stands_once, has_image}
 use Rattle.node_core.specs.declared.course.Course.{Course}

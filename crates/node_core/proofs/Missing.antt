@@ -1,6 +1,5 @@
 -- What home does with a move that missed its process, and with one that is over, is a turn by the laws.
-use Rattle.std.proofs.Common.{◌≡◌, ◌≢◌, ◌⊎◌, inl, inr, ℕ, zero, suc, ◌+◌, ◌<◌, ◌≤◌, ◌==◌, ◌&&◌, cond, nat_lt, Bool, true, false, Option, Some, None, List, [], ◌∷◌, length, refl, sym, ap, ◌∙◌, subst, arith}
-use Rattle.std.specs.Prelude.{nat_le}
+use Rattle.std.proofs.Common.{◌≡◌, ◌⊎◌, inl, inr, ℕ, zero, suc, ◌+◌, ◌<◌, ◌≤◌, ◌==◌, cond, nat_lt, Bool, true, false, Some, [], length, refl, sym, subst, arith}
 use Rattle.std.proofs.lemmas.Bool.Decides.{nat_tests}
 use Rattle.call_forward.specs.declared.acted.Acted.{Acted}
 use Rattle.call_forward.specs.declared.message.Message.TheVariants as message
@@ -8,10 +7,10 @@ use Rattle.node_event.specs.declared.event.What.TheVariants as what
 use Rattle.node_event.specs.declared.event.Refusal.{Refusal}
 use Rattle.node_event.specs.declared.event.Refusal.TheVariants as refusal
 use Rattle.kernel_spec.specs.Kernel.{KernelState, given, is_live}
-use Rattle.deputy.specs.Rows.{HomeState, hops_at, place_at}
+use Rattle.deputy.specs.Rows.{hops_at, place_at}
 use Rattle.deputy.specs.Calls as calls
 use Rattle.deputy.specs.Moves as moves
-use Rattle.protocol.specs.Deeds.{Refused, Again, why_of}
+use Rattle.protocol.specs.Deeds.{why_of}
 use Rattle.protocol.specs.Notes.{Post, letter, NotHere, NoMove}
 use Rattle.protocol.specs.Does.{Unfit, NoNews}
 use Rattle.protocol.specs.Odd.{stamp_end}
@@ -21,7 +20,7 @@ use Rattle.node_core.specs.declared.node.Node.{Node}
 use Rattle.node_core.specs.Locals.{local, slot_of, note_of}
 use Rattle.node_core.specs.Suits.{Suits}
 use Rattle.node_core.specs.Kinds.{OnHome, Says}
-use Rattle.node_core.proofs.Settling.{Acts, Hears, Fits, Misfits, at_clock}
+use Rattle.node_core.proofs.Settling.{Acts, Hears, Fits}
 use Rattle.node_core.proofs.Slots.{cond_same}
 use Rattle.node_core.proofs.Contexts.{suits_hosted}
 use Rattle.node_core.proofs.Home.{acts_on, strange_on, turned_as}

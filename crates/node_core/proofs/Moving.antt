@@ -1,10 +1,8 @@
 -- What a node does with an order to move is a turn by the laws.
-use Rattle.std.proofs.Common.{◌≡◌, ◌≢◌, ◌⊎◌, inl, inr, ℕ, zero, suc, ◌+◌, ◌<◌, ◌≤◌, ◌==◌, cond, Bool, true, false, Option, Some, None, List, [], ◌∷◌, length, refl, sym, ap, ◌∙◌, subst, arith}
+use Rattle.std.proofs.Common.{◌≡◌, ◌≢◌, inl, inr, ℕ, ◌+◌, ◌<◌, ◌≤◌, ◌==◌, cond, Bool, true, false, Option, Some, None, List, [], ◌∷◌, length, refl, sym, ap, ◌∙◌, subst, arith}
 use Rattle.std.specs.Option.{option_map}
 use Rattle.call_forward.specs.declared.acted.Acted.{Acted}
 use Rattle.call_forward.specs.declared.message.Message.TheVariants as message
-use Rattle.call_forward.specs.declared.state.State as code_state
-use Rattle.call_forward.specs.declared.state.State.TheVariants as code_state_is
 use Rattle.node_event.specs.declared.event.What.TheVariants as what
 use Rattle.node_event.specs.declared.event.Refusal.TheVariants as refusal
 use Rattle.migrate_proto.specs.declared.go.GoAnswer.{GoAnswer}
@@ -18,7 +16,7 @@ use Rattle.remote_ctx.specs.Hosted.{lookup, stands}
 use Rattle.remote_ctx.specs.Hosted as hosted
 use Rattle.remote_ctx.specs.Acting.{asking, keeping, has_kept, holds_for}
 use Rattle.protocol.specs.Deeds.{Moving, There}
-use Rattle.protocol.specs.Notes.{Kept, Running, Waiting, Asking, Body, Context, context, Post, letter, Go}
+use Rattle.protocol.specs.Notes.{context, Post, letter, Go}
 use Rattle.protocol.specs.Does.{Unfit, RefusedFor}
 use Rattle.protocol.specs.Odd.{stamp_end}
 use Rattle.protocol.proofs.Talk.{numbers_same, numbers_other}
@@ -28,7 +26,7 @@ use Rattle.node_core.specs.declared.node.Node.{Node}
 use Rattle.node_core.specs.Locals.{local, slot_of, body_of, context_of, state_of, kept_of, note_of}
 use Rattle.node_core.specs.Suits.{Suits}
 use Rattle.node_core.specs.Kinds.{GoActs, answer_at, BeginsMove, KeepsMove, Says, refused, missed}
-use Rattle.node_core.proofs.Settling.{Acts, Hears, Fits, at_clock}
+use Rattle.node_core.proofs.Settling.{Acts, Hears, Fits}
 use Rattle.node_core.proofs.Slots.{cond_same, slots_put}
 use Rattle.node_core.proofs.Contexts.{suits_hosted}
 

@@ -1,21 +1,16 @@
 -- What home does with the lines that launch nothing is a turn by the laws.
-use Rattle.std.proofs.Common.{◌≡◌, ◌≢◌, ◌⊎◌, inl, inr, ℕ, zero, suc, ◌+◌, ◌<◌, ◌≤◌, ◌==◌, ◌&&◌, cond, not, Bool, true, false, Option, Some, None, List, [], ◌∷◌, ◌++◌, map, length, take, slice_get, refl, sym, ap, ◌∙◌, subst, arith}
+use Rattle.std.proofs.Common.{◌≡◌, ◌⊎◌, inl, inr, ℕ, zero, suc, ◌+◌, ◌<◌, ◌≤◌, ◌==◌, ◌&&◌, cond, Bool, true, false, Option, Some, None, List, [], ◌∷◌, map, length, take, refl, sym, ap, ◌∙◌, subst, arith}
 use Rattle.std.specs.Prelude.{is_some, is_none, reverse, nat_le}
-use Rattle.std.specs.Option.{option_map}
 use Rattle.std.proofs.lemmas.Bool.Decides.{nat_tests}
 use Rattle.call_forward.specs.declared.acted.Acted.{Acted}
-use Rattle.call_forward.specs.declared.message.Message.TheVariants as message
-use Rattle.node_event.specs.declared.event.What.{What}
 use Rattle.node_event.specs.declared.event.What.TheVariants as what
 use Rattle.node_event.specs.declared.event.Unsent as unsent_type
 use Rattle.node_event.specs.declared.event.Unsent.TheVariants as unsent
 use Rattle.node_event.specs.declared.script.Order.{Order}
 use Rattle.node_event.specs.declared.script.Order.TheVariants as order
 use Rattle.node_event.specs.declared.script.ScriptLine.{ScriptLine}
-use Rattle.kernel_spec.specs.Processes.{heeding}
 use Rattle.kernel_spec.specs.Kernel.{KernelState, given, is_live, deliverable, with_raised, fed}
 use Rattle.deputy.specs.declared.row.Row.{Row}
-use Rattle.deputy.specs.declared.row.HeldCall.{HeldCall}
 use Rattle.deputy.specs.Rows.{HomeState, held_at, served_at, place_at}
 use Rattle.deputy.specs.Calls.{poke_mail}
 use Rattle.deputy.specs.Moves as moves
@@ -28,14 +23,12 @@ use Rattle.kernel_spec.specs.Pids.{at_pid}
 use Rattle.protocol.specs.Does.{Does, Ordered, EnabledHere, Feeds}
 use Rattle.protocol.specs.Odd.{stamp_end}
 use Rattle.run_laws.specs.Carried.{IsUsual}
-use Rattle.node_machine.specs.Plan.{Plan, IsPlan, run_count, texts, text_of, text_at}
+use Rattle.node_machine.specs.Plan.{Plan, run_count, texts, text_at}
 use Rattle.node_machine.specs.Machine.{Policy, machine, is_hit}
 use Rattle.node_machine.proofs.Scripts.{has_text}
-use Rattle.node_core.specs.declared.course.Course.{Course}
 use Rattle.node_core.specs.declared.node.Node.{Node}
 use Rattle.node_core.specs.Letters.{posted_by}
-use Rattle.node_core.specs.Locals.{local, slot_of, called_of, believed_of, post_of}
-use Rattle.node_core.specs.Suits.{SuitsAt, Suits, Follows}
+use Rattle.node_core.specs.Locals.{local, slot_of, believed_of, post_of}
 use Rattle.node_core.specs.Kinds.{Passes, FeedsText, EndsInput, advanced, passed}
 use Rattle.node_core.proofs.Settling.{Acts, at_clock, turn_at}
 use Rattle.node_core.proofs.Signals.{is_some_same}

@@ -1,5 +1,5 @@
 -- What the scan over the kinds tells.
-use Rattle.std.proofs.Common.{◌≡◌, ◌≢◌, ◌⊎◌, inl, inr, ℕ, cond, Bool, true, false, Option, Some, None, refl, sym, ap, ◌∙◌, subst}
+use Rattle.std.proofs.Common.{◌≡◌, ◌⊎◌, inl, inr, ℕ, cond, Bool, true, false, Option, Some, None, refl, subst}
 use Rattle.std.specs.Prelude.{is_some}
 use Rattle.node_core.specs.declared.rotation.Kind.{Kind}
 use Rattle.node_core.specs.declared.rotation.Kind.TheVariants.{Retry, Context, Line, Half}

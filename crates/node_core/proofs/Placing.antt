@@ -1,5 +1,5 @@
 -- A context in the place of another, and contexts that change twice.
-use Rattle.std.proofs.Common.{◌≡◌, ℕ, ◌==◌, cond, Bool, true, false, Option, Some, None, List, refl, sym, ap, ◌∙◌, subst}
+use Rattle.std.proofs.Common.{◌≡◌, ℕ, ◌==◌, cond, Bool, true, false, Option, Some, None, List, refl, ap, ◌∙◌, subst}
 use Rattle.remote_ctx.specs.declared.context.Context.{Context}
 use Rattle.remote_ctx.specs.Hosted.{lookup, Puts}
 use Rattle.remote_ctx.specs.Acting.{TakesOut}

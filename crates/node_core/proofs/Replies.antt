@@ -1,5 +1,5 @@
 -- What a node does with a reply from home is a turn by the laws.
-use Rattle.std.proofs.Common.{◌≡◌, ◌≢◌, ◌⊎◌, inl, inr, ℕ, zero, suc, ◌+◌, ◌<◌, ◌≤◌, ◌==◌, ◌&&◌, cond, not, Bool, true, false, Option, Some, None, List, [], ◌∷◌, ◌++◌, map, length, refl, sym, ap, ◌∙◌, subst, arith}
+use Rattle.std.proofs.Common.{◌≡◌, ◌≢◌, ◌⊎◌, inl, inr, ℕ, zero, suc, ◌+◌, ◌<◌, ◌≤◌, ◌==◌, ◌&&◌, cond, not, Bool, true, false, Option, Some, None, List, [], ◌∷◌, map, length, refl, sym, ap, ◌∙◌, subst, arith}
 use Rattle.std.specs.Prelude.{is_none, nat_le}
 use Rattle.std.specs.Bool.{MatchBool}
 use Rattle.std.proofs.lemmas.Bool.Decides.{nat_tests}
@@ -13,7 +13,6 @@ use Rattle.call_table.specs.declared.request.Taken.{Taken}
 use Rattle.call_forward.specs.declared.acted.Acted.{Acted}
 use Rattle.call_forward.specs.declared.message.Done as code_done
 use Rattle.call_forward.specs.declared.message.Message.TheVariants as message
-use Rattle.node_event.specs.declared.event.What.TheVariants as what
 use Rattle.user_spec.specs.User.{UserState, need_of_user}
 use Rattle.user_spec.specs.Advance.{request_of}
 use Rattle.user_spec.specs.Fits as user_fits
@@ -24,8 +23,8 @@ use Rattle.remote_ctx.specs.declared.context.Stance.TheVariants as stance
 use Rattle.remote_ctx.specs.Hosted.{lookup, pages_of}
 use Rattle.remote_ctx.specs.Acting as acting
 use Rattle.protocol.specs.Deeds.{Deed, deed_of, Got}
-use Rattle.protocol.specs.Notes.{Kept, State, Running, Waiting, Asking, Body, Context, context, fresh, Post, letter, Reply, Done, Turn}
-use Rattle.protocol.specs.Home.{give, enter, after, returned, forwards, fits_given, fits_entered, fits_done, NeverGiven}
+use Rattle.protocol.specs.Notes.{State, Running, Waiting, Asking, Body, Context, context, Post, letter, Reply, Done}
+use Rattle.protocol.specs.Home.{give, enter, after, returned, forwards, fits_given, fits_entered, fits_done}
 use Rattle.protocol.specs.Does.{Does, Unfit, NotWaiting, WrongDone, WrongChild, got_state, got_context, got_posts, kept_told, child_context}
 use Rattle.protocol.specs.Odd.{stamp_end}
 use Rattle.run_laws.specs.Carried.{IsUsual}
@@ -34,7 +33,7 @@ use Rattle.node_machine.specs.Machine.{Policy, machine}
 use Rattle.node_core.specs.declared.node.Node.{Node}
 use Rattle.node_core.specs.Letters.{posted_by}
 use Rattle.node_core.specs.Locals.{local, slot_of, body_of, context_of, state_of, kept_of, done_of, child_in, note_of, post_of}
-use Rattle.node_core.specs.Suits.{SuitsAt, Suits}
+use Rattle.node_core.specs.Suits.{Suits}
 use Rattle.node_core.proofs.Settling.{Acts, Hears, Fits, Misfits, at_clock, turn_at}
 use Rattle.node_core.proofs.Slots.{slots_put_both}
 use Rattle.node_core.proofs.Contexts.{suits_hosted}

@@ -1,27 +1,18 @@
 -- A held call that goes on, and when none does.
-use Rattle.std.proofs.Common.{◌≡◌, ◌≢◌, ◌⊎◌, inl, inr, ℕ, zero, suc, ◌+◌, ◌<◌, ◌≤◌, ◌==◌, ◌&&◌, ◌||◌, cond, not, Bool, true, false, Option, Some, None, List, [], ◌∷◌, ◌++◌, length, slice_get, refl, sym, ap, ◌∙◌, subst, arith}
-use Rattle.std.specs.Prelude.{is_some}
-use Rattle.std.specs.List.{find}
-use Rattle.std.specs.Option.{option_map}
+use Rattle.std.proofs.Common.{◌≡◌, ℕ, ◌+◌, ◌<◌, ◌≤◌, Option, Some, None, length, refl, ap, arith}
 use Rattle.call_forward.specs.declared.acted.Acted.{Acted}
-use Rattle.kernel_spec.specs.Pids.{at_pid}
-use Rattle.kernel_spec.specs.Kernel.{KernelState, deliverable, given}
-use Rattle.kernel_spec.specs.Calls.{call_result}
-use Rattle.deputy.specs.declared.row.Row.{Row}
 use Rattle.deputy.specs.declared.row.HeldCall.{HeldCall}
-use Rattle.deputy.specs.Rows.{HomeState, held_of, held_at, held_one, held_from, held_pids}
+use Rattle.deputy.specs.Rows.{HomeState, held_at}
 use Rattle.deputy.specs.Calls as calls
-use Rattle.protocol.specs.Rests.{MayGoOn}
 use Rattle.protocol.specs.Odd.{stamp_end}
 use Rattle.node_machine.specs.Plan.{Plan}
-use Rattle.node_machine.specs.Machine.{Policy, machine, serve_at, acted as acted_by}
+use Rattle.node_machine.specs.Machine.{Policy}
 use Rattle.node_core.specs.declared.node.Node.{Node}
-use Rattle.node_core.specs.Locals.{local, called_of}
 use Rattle.node_core.specs.Suits.{Suits}
 use Rattle.node_core.specs.Kinds.{Retries}
 use Rattle.node_core.proofs.Settling.{Acts}
 use Rattle.node_core.proofs.Rows.{row_of}
-use Rattle.node_core.proofs.Firsts.{comes, serve_is}
+use Rattle.node_core.proofs.Firsts.{comes}
 use Rattle.node_core.proofs.Home.{Serving, served_home, served_acted, retried_acts, acts_on, live_given, above_zero}
 
 abbrev retried_as : HomeState → Acted → calls.Retried

@@ -1,12 +1,12 @@
 -- Rows of home, by pid.
-use Rattle.std.proofs.Common.{◌≡◌, ◌≢◌, ℕ, zero, suc, ◌+◌, ◌<◌, ◌≤◌, ◌==◌, ◌&&◌, cond, not, Bool, true, false, Option, Some, None, List, [], ◌∷◌, ◌++◌, length, slice_get, refl, sym, ap, ◌∙◌, subst, arith}
+use Rattle.std.proofs.Common.{◌≡◌, ◌≢◌, ℕ, zero, suc, ◌+◌, ◌<◌, ◌≤◌, ◌==◌, ◌&&◌, cond, Bool, true, false, Option, Some, None, List, [], ◌∷◌, ◌++◌, length, slice_get, refl, sym, ap, ◌∙◌, subst, arith}
 use Rattle.std.specs.Prelude.{◌-◌, ◌^◌, min, is_none}
 use Rattle.std.specs.Option.{option_map}
 use Rattle.kernel_spec.specs.Pids.{at_pid, changed_pid}
 use Rattle.kernel_spec.proofs.PlaceLemmas.{changed_other, changed_here, at_push, at_last}
 use Rattle.deputy.specs.declared.row.Row.{Row}
 use Rattle.deputy.specs.declared.row.HeldCall.{HeldCall}
-use Rattle.deputy.specs.Rows.{held_of, served_of, place_of, hops_of, new_row, holding, counted, moved, with_born}
+use Rattle.deputy.specs.Rows.{held_of, served_of, new_row, counted, with_born}
 use Rattle.protocol.specs.Ops.{is_child}
 use Rattle.node_core.specs.Locals.{believed_of}
 use Rattle.protocol.proofs.Talk.{numbers_same, numbers_other, same_numbers, other_numbers}

@@ -1,22 +1,15 @@
 -- A call that home serves is one that the laws allow: what it comes to, the signal that is taken, the reply and the pokes.
-use Rattle.std.proofs.Common.{◌≡◌, ◌≢◌, ◌⊎◌, inl, inr, ℕ, zero, suc, ◌+◌, ◌<◌, ◌≤◌, ◌==◌, ◌&&◌, cond, not, Bool, true, false, Option, Some, None, List, [], ◌∷◌, ◌++◌, map, length, refl, sym, ap, ◌∙◌, subst, arith}
-use Rattle.std.specs.Prelude.{◌-◌, ◌^◌, min, is_some, is_none, ℤ}
+use Rattle.std.proofs.Common.{◌≡◌, ℕ, ◌==◌, ◌&&◌, cond, not, Bool, true, false, Option, Some, None, List, [], ◌∷◌, ◌++◌, map, refl, sym, ap, ◌∙◌, subst}
+use Rattle.std.specs.Prelude.{is_some, is_none}
 use Rattle.std.specs.Option.{option_map}
-use Rattle.std.specs.FinMap as fin_map
 use Rattle.call_table.specs.declared.request.Answer.{Answer}
-use Rattle.call_forward.specs.declared.acted.Acted.{Acted}
-use Rattle.call_forward.specs.declared.message.Message.{Message}
-use Rattle.call_forward.specs.declared.message.Message.TheVariants as message
-use Rattle.node_event.specs.declared.event.Way.{Way}
 use Rattle.kernel_spec.specs.Pids.{at_pid}
 use Rattle.kernel_spec.specs.Kernel.{KernelState, deliverable, end_at, is_live}
 use Rattle.deputy.specs.declared.asks.Asks.{Asks}
-use Rattle.deputy.specs.declared.row.Row.{Row}
 use Rattle.deputy.specs.declared.row.HeldCall.{HeldCall}
-use Rattle.deputy.specs.Rows.{HomeState, held_of, served_of, place_of, place_at, held_at}
+use Rattle.deputy.specs.Rows.{place_at, held_at}
 use Rattle.deputy.specs.Calls as calls
-use Rattle.protocol.specs.Ops.{is_child}
-use Rattle.protocol.specs.Deeds.{deed_of, manner_of, born_of, Served}
+use Rattle.protocol.specs.Deeds.{manner_of, born_of}
 use Rattle.protocol.specs.Notes.{Believed, Post, letter, Reply, Poke, Slot}
 use Rattle.protocol.specs.Notes as notes
 use Rattle.protocol.specs.Home.{First, Last, last, done_of, value_of, pokes, both, other_than, unheld, Answers}
@@ -28,7 +21,7 @@ use Rattle.node_core.specs.declared.node.Node.{Node}
 use Rattle.node_core.specs.Letters.{posted_by}
 use Rattle.node_core.specs.Locals.{local, slot_of, slot_with, called_of, believed_of, post_of, child_in}
 use Rattle.node_core.specs.Locals as locals
-use Rattle.node_core.proofs.Signals.{is_some_same, last_in, last_is, ArePokes, no_poke, one_poke, two_pokes, ordered_pokes, served_is}
+use Rattle.node_core.proofs.Signals.{is_some_same, last_in, last_is, ArePokes, no_poke, one_poke, two_pokes, ordered_pokes}
 
 value_same : (policy : Policy) (plan : Plan) (o : Option Answer) → calls.value_in o ≡ value_of (machine policy plan) o
 value_same policy plan None = refl

@@ -1,5 +1,5 @@
 -- What a node did, written down, is a turn by the laws.
-use Rattle.std.proofs.Common.{◌≡◌, ◌≢◌, ◌⊎◌, inl, inr, ℕ, zero, suc, ◌+◌, ◌<◌, ◌≤◌, ◌==◌, cond, not, nat_lt, Bool, true, false, Option, Some, None, List, [], ◌∷◌, ◌++◌, map, length, refl, sym, ap, ◌∙◌, subst, arith, IfSome}
+use Rattle.std.proofs.Common.{◌≡◌, inl, inr, ℕ, ◌+◌, ◌<◌, ◌≤◌, ◌==◌, cond, Bool, true, false, Option, Some, List, [], ◌∷◌, ◌++◌, map, length, refl, sym, ap, ◌∙◌, subst, arith, IfSome}
 use Rattle.std.specs.Prelude.{max}
 use Rattle.std.specs.Option.{option_map}
 use Rattle.std.proofs.lemmas.List.{map-append, append-nil, length-append}
@@ -11,17 +11,17 @@ use Rattle.node_event.specs.declared.event.What.{What}
 use Rattle.node_event.specs.declared.event.What.TheVariants as what
 use Rattle.node_event.specs.declared.script.ScriptLine.{ScriptLine}
 use Rattle.protocol.specs.Deeds.{Deed, Noted, noted, all_noted, deed_of, Strange}
-use Rattle.protocol.specs.Notes.{Turn, Post, Note, Slot, Local, letter}
-use Rattle.protocol.specs.Does.{Does, Makes, Unfit, Skips, next_stamp, pid_of_note}
-use Rattle.protocol.specs.Odd.{IsOdd, ManyHops, SkipsOdd, Timely, stamp_end}
+use Rattle.protocol.specs.Notes.{Turn, Post, letter}
+use Rattle.protocol.specs.Does.{Does, Unfit, next_stamp, pid_of_note}
+use Rattle.protocol.specs.Odd.{IsOdd, ManyHops, stamp_end}
 use Rattle.run_laws.specs.Carried.{recorded, IsUsual}
 use Rattle.node_machine.specs.Plan.{Plan}
 use Rattle.node_machine.specs.Machine.{Policy, machine}
 use Rattle.node_core.specs.declared.node.Node.{Node}
 use Rattle.node_core.specs.Letters.{posted_by}
 use Rattle.node_core.specs.Locals.{local, slot_of, post_of, post_at, note_of}
-use Rattle.node_core.specs.Suits.{SuitsAt, Suits, IsWithin}
-use Rattle.node_core.specs.Turns.{Made, PassedOver, one_more, strange_after, is_strange, recorded_in, skipped_in, settled_in}
+use Rattle.node_core.specs.Suits.{SuitsAt, Suits}
+use Rattle.node_core.specs.Turns.{Made, one_more, strange_after, is_strange, recorded_in, skipped_in, settled_in}
 
 abbrev pub at_clock : ℕ → Node → Node
 at_clock stamp n = record n { clock = stamp }

@@ -1,15 +1,14 @@
 -- The taking of a signal, and the pokes, in the words of the laws.
-use Rattle.std.proofs.Common.{◌≡◌, ◌≢◌, ℕ, zero, suc, ◌+◌, ◌<◌, ◌==◌, ◌&&◌, nat_lt, cond, not, Bool, true, false, Option, Some, None, List, [], ◌∷◌, ◌++◌, map, refl, sym, ap, ◌∙◌, subst, arith}
-use Rattle.std.specs.Prelude.{is_some, is_none, ℤ}
+use Rattle.std.proofs.Common.{◌≡◌, ℕ, ◌==◌, nat_lt, cond, Bool, true, false, Option, Some, None, List, [], ◌∷◌, refl, sym, ◌∙◌, arith}
+use Rattle.std.specs.Prelude.{is_some, ℤ}
 use Rattle.std.specs.Option.{option_map, option_and_then}
 use Rattle.call_table.specs.declared.process.End.{End}
-use Rattle.node_event.specs.declared.event.Way.{Way}
 use Rattle.signal_set.specs.Signals.{SignalState, lowest_deliverable}
 use Rattle.kernel_spec.specs.Processes.{live_signals, taken_of, take_of}
 use Rattle.kernel_spec.specs.Kernel.{KernelState, AfterTake, after_took, deliverable, take_result}
 use Rattle.deputy.specs.declared.pokes.Pokes.{Pokes}
 use Rattle.deputy.specs.Calls as calls
-use Rattle.protocol.specs.Deeds.{Manner, Deed, Served, manner_of, born_of, served_deed}
+use Rattle.protocol.specs.Deeds.{Manner, Served, born_of, served_deed}
 use Rattle.protocol.specs.Notes as notes
 use Rattle.protocol.specs.Home.{Last, last, both}
 use Rattle.protocol.specs.Home as home

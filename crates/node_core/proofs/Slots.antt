@@ -1,11 +1,11 @@
 -- Slots of a node, as its tables change.
-use Rattle.std.proofs.Common.{◌≡◌, ◌≢◌, ℕ, zero, suc, ◌+◌, ◌==◌, ◌≤◌, cond, Bool, true, false, Option, Some, None, List, refl, sym, ap, ◌∙◌, subst, arith}
+use Rattle.std.proofs.Common.{◌≡◌, ℕ, ◌==◌, cond, Bool, true, false, Option, Some, None, List, refl, ap, ◌∙◌}
 use Rattle.std.specs.Option.{option_map}
 use Rattle.std.specs.FinMap as fin_map
 use Rattle.remote_ctx.specs.declared.context.Context as code_context
 use Rattle.remote_ctx.specs.Hosted.{lookup, Puts, PutsBoth, is_pid}
 use Rattle.protocol.specs.Ops.{is_child}
-use Rattle.protocol.specs.Notes.{Context, Slot}
+use Rattle.protocol.specs.Notes.{Context}
 use Rattle.protocol.specs.Does.{hosts}
 use Rattle.node_machine.specs.Plan.{Plan}
 use Rattle.node_machine.specs.Machine.{Policy, machine}

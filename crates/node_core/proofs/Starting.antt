@@ -1,6 +1,6 @@
 -- A node before anything happened suits its plan, and is fresh by the laws.
-use Rattle.std.proofs.Common.{◌≡◌, ◌≢◌, ℕ, zero, suc, ◌+◌, ◌<◌, ◌≤◌, List, [], ◌∷◌, ◌++◌, length, Some, None, Result, Ok, Err, IfOk, refl, sym, ap, ◌∙◌, subst, arith}
-use Rattle.std.specs.Prelude.{◌-◌, reverse}
+use Rattle.std.proofs.Common.{◌≡◌, ℕ, zero, suc, ◌+◌, ◌≤◌, List, [], None, Result, Ok, Err, IfOk, refl, sym, ap, ◌∙◌, subst, arith}
+use Rattle.std.specs.Prelude.{◌-◌}
 use Rattle.std.proofs.lemmas.List.{reverse-reverse}
 use Rattle.node_event.specs.declared.script.ScriptLine.{ScriptLine}
 use Rattle.call_forward.specs.declared.letter.Letter.{Letter}
@@ -8,14 +8,11 @@ use Rattle.user_spec.specs.User.{UserState}
 use Rattle.kernel_spec.specs.Pids.{at_pid}
 use Rattle.deputy.specs.declared.row.Row.{Row}
 use Rattle.deputy.specs.Rows.{served_of}
-use Rattle.protocol.specs.Cluster.{Fresh}
 use Rattle.node_machine.specs.Plan.{Plan}
-use Rattle.node_machine.specs.Machine.{Policy, machine}
 use Rattle.node_core.specs.declared.shape.Shape.{Shape}
 use Rattle.node_core.specs.declared.node.Node.{Node}
 use Rattle.node_core.specs.Suits.{Suits}
 use Rattle.node_core.specs.Making.{new_node, Beginning}
-use Rattle.node_core.specs.Locals.{local}
 
 none_at : (q : ℕ) → at_pid {A = Row} [] q ≡ None
 none_at zero = refl

@@ -1,5 +1,5 @@
 -- What a node makes of a message or of a kind of turn, in the words of its parts.
-use Rattle.std.specs.Prelude.{◌≡◌, ◌≢◌, ◌+◌, ◌-◌, ◌^◌, ℕ, max, min, is_none, is_some, slice_get, nat_lt, nat_le, ◌&&◌, ◌||◌, ◌==◌, not, cond, ◌⊎◌, Bool, true, false, Option, Some, None, List, [], ◌∷◌, ◌++◌, length, MatchOption}
+use Rattle.std.specs.Prelude.{◌≡◌, ◌+◌, ◌-◌, ◌^◌, ℕ, max, min, is_some, slice_get, nat_lt, nat_le, ◌&&◌, ◌||◌, ◌==◌, not, ◌⊎◌, Bool, true, false, Option, Some, None, List, [], ◌∷◌, ◌++◌, length, MatchOption}
 use Rattle.call_forward.specs.declared.acted.Acted.{Acted}
 use Rattle.call_forward.specs.declared.message.Message.{Message}
 use Rattle.call_forward.specs.declared.message.Message.TheVariants as message
@@ -25,7 +25,7 @@ use Rattle.migrate_proto.specs.Moves.{go_answer}
 use Rattle.remote_ctx.specs.Hosted.{lookup, runs_at, state_of, pages_of, IsNext, NonePasses, Puts, Changes}
 use Rattle.remote_ctx.specs.Acting.{StepsOn, fresh, asking, keeping, holds_for, has_kept, Sends, Heeds, PokedOn, Gets, poked_as, child_in}
 use Rattle.deputy.specs.declared.row.HeldCall.{HeldCall}
-use Rattle.deputy.specs.Rows.{HomeState, held_at, served_at}
+use Rattle.deputy.specs.Rows.{held_at, served_at}
 use Rattle.deputy.specs.Calls.{Turned, called_in, paused_in, retried_in, next_ready}
 use Rattle.deputy.specs.Rules.{CanWait}
 use Rattle.user_spec.specs.User.{UserState}

@@ -1,5 +1,5 @@
 -- What a turn of a node may answer.
-use Rattle.std.specs.Prelude.{◌≡◌, ◌≢◌, ◌+◌, ◌-◌, ◌^◌, ◌⊎◌, ℕ, min, nat_lt, cond, Bool, true, false, Option, Some, None, List, [], ◌∷◌, ◌++◌, map, length}
+use Rattle.std.specs.Prelude.{◌≡◌, ◌+◌, ◌-◌, ◌^◌, ◌⊎◌, ℕ, min, nat_lt, cond, Bool, true, false, Option, Some, [], ◌∷◌, ◌++◌, map, length}
 use Rattle.std.specs.Option.{option_map}
 use Rattle.call_forward.specs.declared.letter.Letter.{Letter}
 use Rattle.call_forward.specs.declared.acted.Acted.{Acted}

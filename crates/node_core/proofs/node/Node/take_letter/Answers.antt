@@ -1,4 +1,4 @@
-use Rattle.std.proofs.Common.{◌≡◌, Option, Some, false, subst, rules}
+use Rattle.std.proofs.Common.{◌≡◌, Option, false, subst, rules}
 use Rattle.call_forward.specs.declared.acted.Acted.{Acted}
 use Rattle.node_core.specs.Turning.{HearsAnySome, is_odd}
 use Rattle.node_core.proofs.Doing.{heard_room, heard_took}
