@@ -24,7 +24,7 @@ module _ (policy : Policy) (plan : Plan) where
   took_answers Idle old new l suits t = absurd t
   took_answers Finished old new l suits t = absurd t
   took_answers JournalFull old new l suits t = absurd t
-  took_answers NotBuilt old new l suits t = tt
+  took_answers NotBuilt old new l suits t = t
 
   pub full_answers : (old : Node) (l : Letter) → length old.journal.events ≡ old.journal.room → Answers policy plan JournalFull (Some l) old old
   full_answers old l full = record { full = full; more = tt; same = refl }

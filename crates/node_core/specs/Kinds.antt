@@ -115,9 +115,24 @@ HearsHere from (message.NotHere pid to hops line) acted old mid = OnHome (missed
 HearsHere from (message.NoMove line) acted old mid = Says (closed_acted line) acted old mid
 HearsHere from _ acted old mid = ⊥
 
+-- what a node does not hear yet: the letters of a move, and halves of vectors
+abbrev pub IsUnbuilt : Message → Type 0
+IsUnbuilt (message.Ask pid need) = Unit {0}
+IsUnbuilt (message.Allow pid) = Unit {0}
+IsUnbuilt (message.Deny pid need free) = Unit {0}
+IsUnbuilt (message.Move pid user hops line) = Unit {0}
+IsUnbuilt (message.Landed pid source hops line) = Unit {0}
+IsUnbuilt (message.Half places) = Unit {0}
+IsUnbuilt _ = ⊥
+
+-- then nothing changes
+pub record IsLeft (m : Message) (old mid : Node) : Type 0 where
+  pub unbuilt : IsUnbuilt m
+  pub same : mid ≡ old
+
 -- None: that kind of message is not built yet
 abbrev pub HearsSome : ℕ → Message → Option Acted → Node → Node → Type 0
-HearsSome from m None old mid = Unit {0}
+HearsSome from m None old mid = IsLeft m old mid
 HearsSome from m (Some acted) old mid = HearsHere from m acted old mid
 
 -- ---- a call that was held
