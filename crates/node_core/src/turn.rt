@@ -29,7 +29,8 @@ pub enum Turned {
     Finished,
     /// More was due, and the journal is full.
     JournalFull,
-    /// What was due is not built yet.
+    /// What came or was due is not built yet: the letters of a move between nodes, halves of vectors, and, in a cluster of more than one node or with a full
+    /// journal where a held call can go on, a turn without a letter.
     NotBuilt,
 }
 
@@ -218,9 +219,10 @@ impl Node {
         Ok(Turned::Did)
     }
 
-    /// One turn. With a letter the node takes it; without one it does what is due of the first kind in the rotation. Idle comes exactly where no letter came
-    /// and no kind has something to do, Finished where besides it is home, its script is at its end and every process has ended. JournalFull comes exactly
-    /// where more is due and the journal is full: then nothing changes, and the letter is dropped. After want of memory nothing is said of the node.
+    /// One turn. With a letter the node takes it; without one it does what is due of the first kind in the rotation. Idle comes only where no letter came
+    /// and no kind has something to do, Finished where besides it is home, its script is at its end and every process has ended. JournalFull comes only
+    /// where more is due and the journal is full: then nothing changes, and the letter is dropped. NotBuilt with a letter
+    /// changes nothing; without one nothing is said of it yet. After want of memory nothing is said of the node.
     #[tactic(auto, using(crate::proofs::Answering::took_answers, crate::proofs::Answering::went_answers, crate::proofs::Answering::full_answers))]
     pub fn turn<C: Chooser>(
         &mut self,
