@@ -1,20 +1,18 @@
 -- A node before anything happened suits its plan, and is fresh by the laws.
-use Rattle.std.proofs.Common.{◌≡◌, ◌≢◌, ℕ, zero, suc, ◌+◌, ◌<◌, ◌≤◌, List, [], ◌∷◌, ◌++◌, length, Some, None, Result, Ok, Err, IfOk, refl, sym, ap, ◌∙◌, subst, arith}
-use Rattle.std.specs.Prelude.{◌-◌, reverse}
+use Rattle.std.proofs.Common.{◌≡◌, ℕ, zero, suc, ◌+◌, ◌≤◌, List, [], None, Result, Ok, Err, IfOk, refl, sym, ap, ◌∙◌, subst, arith}
+use Rattle.std.specs.Prelude.{◌-◌}
 use Rattle.std.proofs.lemmas.List.{reverse-reverse}
 use Rattle.node_event.specs.declared.script.ScriptLine.{ScriptLine}
+use Rattle.call_forward.specs.declared.letter.Letter.{Letter}
 use Rattle.user_spec.specs.User.{UserState}
 use Rattle.kernel_spec.specs.Pids.{at_pid}
 use Rattle.deputy.specs.declared.row.Row.{Row}
 use Rattle.deputy.specs.Rows.{served_of}
-use Rattle.protocol.specs.Cluster.{Fresh}
 use Rattle.node_machine.specs.Plan.{Plan}
-use Rattle.node_machine.specs.Machine.{Policy, machine}
 use Rattle.node_core.specs.declared.shape.Shape.{Shape}
 use Rattle.node_core.specs.declared.node.Node.{Node}
 use Rattle.node_core.specs.Suits.{Suits}
 use Rattle.node_core.specs.Making.{new_node, Beginning}
-use Rattle.node_core.specs.Locals.{local}
 
 none_at : (q : ℕ) → at_pid {A = Row} [] q ≡ None
 none_at zero = refl
@@ -41,3 +39,15 @@ pub new_suits_ok : {E : Type 0} (id : ℕ) (shape : Shape) (script : List Script
     → IfOk r (λ (n : Node). (run : Plan) → Beginning run id shape script users → Suits run n)
 new_suits_ok id shape script users (Ok n) is = λ run b. new_suits_of run id shape script users n is b
 new_suits_ok id shape script users (Err e) is = tt
+
+-- what is taken out of the outbox is not missed
+pub suits_out : (plan : Plan) (n : Node) (outbox : List Letter) → Suits plan n → Suits plan (record n { outbox = outbox })
+suits_out plan n outbox s = record {
+  is_plan = s.is_plan;
+  below = s.below;
+  shape = s.shape;
+  room = s.room;
+  within = record { clock = s.within.clock; served = s.within.served; sent = s.within.sent; steps = s.within.steps };
+  course = s.course;
+  chance = s.chance;
+}

@@ -4,3 +4,5 @@ pub mod Suits
 pub mod Rotation
 pub mod Making
 pub mod Turns
+pub mod Kinds
+pub mod Turning

@@ -1,5 +1,5 @@
 -- What a turn of a node may answer.
-use Rattle.std.specs.Prelude.{◌≡◌, ◌≢◌, ◌+◌, ◌-◌, ◌^◌, ◌⊎◌, ℕ, min, nat_lt, cond, Bool, true, false, Option, Some, None, List, [], ◌∷◌, ◌++◌, map, length}
+use Rattle.std.specs.Prelude.{◌≡◌, ◌+◌, ◌-◌, ◌^◌, ◌⊎◌, ℕ, min, nat_lt, cond, Bool, true, false, Option, Some, [], ◌∷◌, ◌++◌, map, length, MatchOption}
 use Rattle.std.specs.Option.{option_map}
 use Rattle.call_forward.specs.declared.letter.Letter.{Letter}
 use Rattle.call_forward.specs.declared.acted.Acted.{Acted}
@@ -19,6 +19,7 @@ use Rattle.node_core.specs.declared.turn.Turned.TheVariants.{Did, Idle, Finished
 use Rattle.node_core.specs.Letters.{posted_by}
 use Rattle.node_core.specs.Locals.{local, post_of, post_at}
 use Rattle.node_core.specs.Suits.{Suits}
+use Rattle.node_core.specs.Kinds.{IsLeft}
 
 -- the count of strange letters stays at its end
 abbrev pub one_more : ℕ → ℕ
@@ -74,7 +75,7 @@ module _ (policy : Policy) (plan : Plan) where
   Answers Idle inbox old new = Rested inbox old new
   Answers Finished inbox old new = HasFinished inbox old new
   Answers JournalFull inbox old new = IsFull inbox old new
-  Answers NotBuilt inbox old new = Unit {0}
+  Answers NotBuilt inbox old new = MatchOption inbox (Unit {0}) (λ l. IsLeft l.message old new)
 
 -- whatever cluster the node is one of
 abbrev pub TurnsAs : Policy → Turned → Option Letter → Node → Node → Type 0

@@ -1,7 +1,11 @@
-// A node of the cluster: its parts, and how a turn is written down.
+// A node of the cluster: what one turn of it does.
 #![tactic(auto)]
 
 mod course;
+mod kinds;
+mod letters;
+mod lines;
+mod moves;
 mod node;
 mod outbox;
 mod rotation;

@@ -1,12 +1,22 @@
-// How a turn of a node is written down.
-ghost use Rattle.std.specs.Prelude.{◌≡◌, ◌<◌, ◌+◌, ◌-◌, ◌^◌, max, length, OnOk};
-ghost use Rattle.node_core.specs.Turns.{is_strange, recorded_in, settled_in, skipped_in};
+// One turn of a node.
+ghost use Rattle.std.specs.Prelude.{◌≡◌, ◌<◌, ◌+◌, ◌-◌, ◌^◌, ℕ, max, min, length, OnOk, IfOk, true, false};
+ghost use Rattle.std.specs.Bool.{MatchBool};
+ghost use Rattle.kernel_spec.specs.Kernel.{is_live};
+ghost use Rattle.node_machine.specs.Policy.{given_by};
+ghost use Rattle.node_core.specs.Turns.{is_strange, one_more, recorded_in, settled_in, skipped_in, TurnsAs};
+ghost use Rattle.node_core.specs.Kinds.{is_misplaced, HearsSome, IsStrange};
+ghost use Rattle.node_core.specs.Turning.{has_many_hops, is_odd, HearsAnySome, FullAt, IsDone, IsRest, TookLetter, WentOn};
 
+use crate::letters::strange;
 use crate::node::Node;
-use call_forward::Acted;
+use crate::rotation::{Kind, picked};
+use call_forward::{Acted, Letter, Message};
 use call_table::NoMemory;
 use call_table::limit::STAMPS;
+use home_kernel::Kernel;
 use node_event::{Event, What};
+use policy_box::{Chooser, Policy};
+use std::alloc::Global;
 
 /// What a turn did.
 #[derive(Clone, Copy, Debug, PartialEq, Eq)]
@@ -19,7 +29,8 @@ pub enum Turned {
     Finished,
     /// More was due, and the journal is full.
     JournalFull,
-    /// What was due is not built yet.
+    /// What came or was due is not built yet: the letters of a move between nodes, halves of vectors, and, in a cluster of more than one node or with a full
+    /// journal where a held call can go on, a turn without a letter.
     NotBuilt,
 }
 
@@ -35,6 +46,39 @@ pub fn later(clock: u64, sent: u64) -> u64
     ensures { max clock sent < 2 ^ 64 - 1 → result ≡ max clock sent + 1 }
 {
     clock.max(sent).saturating_add(1)
+}
+
+/// Whether a context that moves has landed as often as can be counted.
+fn has_many_hops(message: &Message) -> bool
+    ensures { result ≡ has_many_hops message.now }
+{
+    match message {
+        Message::Move { hops, .. } => *hops == u32::MAX,
+        _ => false,
+    }
+}
+
+/// Whether every process has ended.
+#[tactic(auto, using(crate::proofs::Living::ended_start, crate::proofs::Living::ended_more, crate::proofs::Living::ended_all, crate::proofs::Living::one_lives))]
+fn all_ended(kernel: &Kernel) -> bool
+    ensures { MatchBool result ((p : ℕ) → is_live kernel.now p ≡ false) (((p : ℕ) → is_live kernel.now p ≡ false) → ⊥) }
+{
+    for pid in 0..kernel.given() {
+        if kernel.live(pid + 1) {
+            return false;
+        }
+    }
+    true
+}
+
+/// What is answered where this kind has something to do and the journal is full.
+fn full(kind: Kind) -> Turned
+    ensures { FullAt kind result }
+{
+    match kind {
+        Kind::Retry => Turned::NotBuilt,
+        _ => Turned::JournalFull,
+    }
 }
 
 impl Node {
@@ -75,5 +119,132 @@ impl Node {
         }
         self.record(stamp, acted)?;
         Ok(())
+    }
+
+    /// Whether an event can be written down.
+    fn has_room(&self) -> bool
+        ensures { MatchBool result (length self.now.journal.events < self.now.journal.room) (length self.now.journal.events ≡ self.now.journal.room) }
+    {
+        let _events = self.journal.len();
+        !self.journal.is_full()
+    }
+
+    // ---- a turn with a letter
+
+    /// Whether a letter is odd: its stamp or its hops are at their end, or its target is no node of the cluster.
+    fn is_odd(&self, letter: &Letter) -> bool
+        ensures { result ≡ is_odd self.now letter.now }
+    {
+        letter.stamp >= STAMPS || letter.to >= self.shape.nodes || has_many_hops(&letter.message)
+    }
+
+    /// What the node makes of a message. None where the kind of message is not built yet.
+    fn hear_any(
+        &mut self,
+        alloc: Global,
+        from: u8,
+        message: Message,
+    ) -> Result<Option<Acted>, NoMemory>
+        ensures { IfOk result (λ acted. HearsAnySome from message acted self.old self.new) }
+    {
+        if self.is_misplaced(from, &message) {
+            return Ok(Some(strange(alloc)));
+        }
+        let acted = self.hear(alloc, from, message)?;
+        Ok(acted)
+    }
+
+    /// The node takes a letter.
+    fn take_letter(&mut self, alloc: Global, letter: Letter) -> Result<Turned, NoMemory>
+        requires { length self.old.journal.events < self.old.journal.room }
+        ensures { IfOk result (λ turned. TookLetter turned letter self.old self.new) }
+    {
+        if self.is_odd(&letter) {
+            self.strange = self.strange.saturating_add(1);
+            return Ok(Turned::Did);
+        }
+        let stamp = later(self.clock, letter.stamp);
+        let from = letter.from;
+        let Some(acted) = self.hear_any(alloc, from, letter.message)? else {
+            return Ok(Turned::NotBuilt);
+        };
+        self.settle(stamp, acted)?;
+        Ok(Turned::Did)
+    }
+
+    // ---- a turn without a letter
+
+    /// Whether the script is at its end and every process has ended.
+    #[tactic(auto, using(crate::proofs::Living::done_is, crate::proofs::Living::not_home, crate::proofs::Living::not_through, crate::proofs::Living::not_ended))]
+    fn is_done(&self) -> bool
+        ensures { MatchBool result (IsDone self.now) (IsDone self.now → ⊥) }
+    {
+        if self.id != 0 || self.course.done != self.course.script.len() {
+            return false;
+        }
+        all_ended(self.deputies.kernel())
+    }
+
+    /// The node rests.
+    fn rest(&self) -> Turned
+        ensures { IsRest result self.now }
+    {
+        if self.is_done() {
+            Turned::Finished
+        } else {
+            Turned::Idle
+        }
+    }
+
+    /// The node goes on by itself.
+    fn go_on(&mut self, alloc: Global) -> Result<Turned, NoMemory>
+        ensures { IfOk result (λ turned. WentOn turned self.old self.new) }
+    {
+        if self.shape.nodes > 1 {
+            return Ok(Turned::NotBuilt);
+        }
+        let ready = self.ready();
+        let Some(kind) = picked(self.rotation.last, &ready) else {
+            return Ok(self.rest());
+        };
+        if !self.has_room() {
+            return Ok(full(kind));
+        }
+        let stamp = later(self.clock, 0);
+        let Some(acted) = self.carry_out(alloc, kind, ready.context)? else {
+            return Ok(Turned::NotBuilt);
+        };
+        self.rotation.take(kind, ready.context);
+        self.settle(stamp, acted)?;
+        Ok(Turned::Did)
+    }
+
+    /// One turn. With a letter the node takes it; without one it does what is due of the first kind in the rotation. Idle comes only where no letter came
+    /// and no kind has something to do, Finished where besides it is home, its script is at its end and every process has ended. JournalFull comes only
+    /// where more is due and the journal is full: then nothing changes, and the letter is dropped. NotBuilt with a letter
+    /// changes nothing; without one nothing is said of it yet. After want of memory nothing is said of the node.
+    #[tactic(auto, using(crate::proofs::Answering::took_answers, crate::proofs::Answering::went_answers, crate::proofs::Answering::full_answers))]
+    pub fn turn<C: Chooser>(
+        &mut self,
+        alloc: Global,
+        inbox: Option<Letter>,
+        policy: &Policy<C>,
+    ) -> Result<Turned, NoMemory>
+        ensures { IfOk result (λ turned. TurnsAs (given_by (C.answers policy.now)) turned inbox self.old self.new) }
+    {
+        let _policy = policy;
+        match inbox {
+            Some(letter) => {
+                if !self.has_room() {
+                    return Ok(Turned::JournalFull);
+                }
+                let turned = self.take_letter(alloc, letter)?;
+                Ok(turned)
+            }
+            None => {
+                let turned = self.go_on(alloc)?;
+                Ok(turned)
+            }
+        }
     }
 }

@@ -1,0 +1,199 @@
+-- What functions of a node did, put together from what the functions that they call did.
+use Rattle.std.proofs.Common.{◌≡◌, ◌⊎◌, inl, inr, ℕ, ◌<◌, ◌≤◌, Bool, true, false, Option, Some, None, List, [], ◌∷◌, ◌++◌, length, refl, sym, ap, ◌∙◌, subst}
+use Rattle.std.specs.Prelude.{max, unwrap_or}
+use Rattle.std.specs.Bool.{MatchBool}
+use Rattle.std.specs.Option.{option_map}
+use Rattle.call_forward.specs.declared.acted.Acted.{Acted}
+use Rattle.call_forward.specs.declared.letter.Letter.{Letter}
+use Rattle.call_forward.specs.declared.message.Done.{Done}
+use Rattle.call_forward.specs.declared.message.Message.{Message}
+use Rattle.call_forward.specs.declared.message.Message.TheVariants as message
+use Rattle.node_event.specs.declared.event.What.TheVariants as what
+use Rattle.node_event.specs.Journals.{JournalState}
+use Rattle.migrate_proto.specs.declared.go.GoAnswer.{GoAnswer}
+use Rattle.migrate_proto.specs.declared.go.GoAnswer.TheVariants as answer
+use Rattle.user_spec.specs.User.{UserState}
+use Rattle.kernel_spec.specs.Kernel.{given}
+use Rattle.remote_ctx.specs.declared.context.Context as code_context
+use Rattle.remote_ctx.specs.declared.quantum.Ran.{Ran}
+use Rattle.remote_ctx.specs.declared.quantum.Ran.TheVariants as ran
+use Rattle.remote_ctx.specs.Hosted.{lookup, pages_of, Changes, Puts}
+use Rattle.remote_ctx.specs.Acting.{RunsAs, StepsOn, asking, fresh, child_in, poked_as, Heeds, Sends, Gets}
+use Rattle.deputy.specs.Rows.{HomeState}
+use Rattle.deputy.specs.Moves.{LaunchesAt}
+use Rattle.node_core.specs.declared.course.Course.{Course}
+use Rattle.node_core.specs.declared.lines.Task.{Task}
+use Rattle.node_core.specs.declared.lines.Task.TheVariants as task
+use Rattle.node_core.specs.declared.node.Node.{Node}
+use Rattle.node_core.specs.declared.rotation.Kind.{Kind}
+use Rattle.node_core.specs.declared.rotation.Kind.TheVariants as kind
+use Rattle.node_core.specs.declared.rotation.Ready.{Ready}
+use Rattle.node_core.specs.declared.rotation.Rotation.{Rotation}
+use Rattle.node_core.specs.Rotation.{picked, rotated}
+use Rattle.node_core.specs.Turns.{settled_in}
+use Rattle.node_core.specs.Kinds.{BeginsMove, IsReady, IsStrange, OnHosted, HearsHere, HearsReply, GoActs, answer_at, is_misplaced, is_stray, stepped, ContextActs, RunsContext, TaskActs, LineActs, CarriesOut, Launches, advanced}
+use Rattle.node_core.specs.Kinds as kinds
+use Rattle.node_core.specs.Turning.{is_odd, IsStamp, HearsAny, Heard, Passed, Went}
+
+-- ---- a move begins
+
+abbrev begin_acted : ℕ → ℕ → ℕ → List (ℕ × Message) → Acted
+begin_acted pid to line mail = record { what = what.Begin pid to line; mail = mail }
+
+pub begun : (pid to line : ℕ) (old : Node) (h : List code_context.Context) (mail : List (ℕ × Message)) (need : ℕ) (found : Option ℕ) → Changes pid (asking to (Some line)) old.hosted h
+    → found ≡ option_map pages_of (lookup pid old.hosted) → need ≡ unwrap_or found 0 → mail ≡ (to, message.Ask pid need) ∷ [] → BeginsMove pid to line (begin_acted pid to line mail) old (record old { hosted = h })
+begun pid to line old h mail need found changes found_is need_is mail_is =
+    let at : need ≡ pages_of changes.context = need_is ∙ ap (λ (o : Option ℕ). unwrap_or o 0) (found_is ∙ ap (option_map pages_of) changes.here) in
+    record {
+      changes = changes;
+      acted_is = ap (begin_acted pid to line) (mail_is ∙ ap (λ (n : ℕ). (to, message.Ask pid n) ∷ []) at);
+      rest = refl;
+    }
+
+-- ---- a quantum of steps
+
+pub steps_went : (k pid quantum : ℕ) (did : Ran) (old mid : Node) (h : List code_context.Context) (mail : List (ℕ × Message)) → RunsAs did pid quantum old.hosted h → did ≡ ran.Steps k → quantum ≡ max old.shape.quantum 1 → mail ≡ []
+    → mid ≡ record old { hosted = h; talk = stepped old.talk } → kinds.Steps k pid (record { what = what.Steps pid k; mail = mail }) old mid
+steps_went k pid quantum did old mid h mail runs did_is quantum_is mail_is mid_is =
+    let on : StepsOn k pid quantum old.hosted h = subst (λ (r : Ran). RunsAs r pid quantum old.hosted h) did_is runs in
+    let long : StepsOn k pid (max old.shape.quantum 1) old.hosted h = subst (λ (q : ℕ). StepsOn k pid q old.hosted h) quantum_is on in
+    record {
+      ran = subst (λ (n : Node). StepsOn k pid (max old.shape.quantum 1) old.hosted n.hosted) (sym mid_is) long;
+      what = refl;
+      mail = mail_is;
+      rest = subst (λ (n : Node). n ≡ record old { hosted = n.hosted; talk = stepped old.talk }) (sym mid_is) refl;
+    }
+
+-- ---- a process is launched
+
+pub launched_is : (line pid : ℕ) (user : UserState) (users : List UserState) (found : Option ℕ) (old : Node) (d : HomeState) (h : List code_context.Context) (course : Course) (pushed : List ℕ) (mail : List (ℕ × Message))
+    → length old.deputies.rows ≡ given old.deputies.kernel → LaunchesAt found old.deputies d → found ≡ Some pid → old.course.users ≡ users ++ user ∷ [] → Puts pid (Some (fresh (record user { pid = pid }) 0)) old.hosted h → mail ≡ []
+    → pushed ≡ old.course.launched ++ pid ∷ [] → course ≡ advanced line (record old.course { users = users; launched = pushed })
+    → Launches line (record { what = what.Command line (Some pid) None None; mail = mail }) old (record old { deputies = d; hosted = h; course = course })
+launched_is line pid user users found old d h course pushed mail each launches found_is left puts mail_is pushed_is course_is = record {
+  pid = pid;
+  user = user;
+  users = users;
+  each = each;
+  launched = subst (λ (o : Option ℕ). LaunchesAt o old.deputies d) found_is launches;
+  left = left;
+  puts = puts;
+  what = refl;
+  mail = mail_is;
+  course = course_is ∙ ap (λ (ps : List ℕ). advanced line (record old.course { users = users; launched = ps })) pushed_is;
+  rest = refl;
+}
+
+-- ---- what a node keeps as it hears a message or carries out a kind of turn: its journal and its rotation
+
+pub record Keeps (old mid : Node) : Type 0 where
+  pub journal : mid.journal ≡ old.journal
+  pub rotation : mid.rotation ≡ old.rotation
+
+same_keeps : (old mid : Node) → mid ≡ old → Keeps old mid
+same_keeps old mid e = record { journal = ap (λ (n : Node). n.journal) e; rotation = ap (λ (n : Node). n.rotation) e }
+
+home_keeps : (old mid : Node) → mid ≡ record old { deputies = mid.deputies } → Keeps old mid
+home_keeps old mid e = record { journal = ap (λ (n : Node). n.journal) e; rotation = ap (λ (n : Node). n.rotation) e }
+
+hosted_keeps : (old mid : Node) → mid ≡ record old { hosted = mid.hosted } → Keeps old mid
+hosted_keeps old mid e = record { journal = ap (λ (n : Node). n.journal) e; rotation = ap (λ (n : Node). n.rotation) e }
+
+reply_keeps : (b : Bool) (Does : List code_context.Context → List code_context.Context → Type 0) (acted : Acted) (old mid : Node) → MatchBool b (IsStrange acted old mid) (OnHosted Does old mid) → Keeps old mid
+reply_keeps true Does acted old mid s = same_keeps old mid s.same
+reply_keeps false Does acted old mid o = hosted_keeps old mid o.rest
+
+go_keeps : (a : GoAnswer) (pid to hops line : ℕ) (acted : Acted) (old mid : Node) → GoActs a pid to hops line acted old mid → Keeps old mid
+go_keeps answer.Begin pid to hops line acted old mid g = hosted_keeps old mid g.rest
+go_keeps answer.Keep pid to hops line acted old mid g = hosted_keeps old mid g.rest
+go_keeps answer.There pid to hops line acted old mid g = same_keeps old mid g.same
+go_keeps answer.Moving pid to hops line acted old mid g = same_keeps old mid g.same
+go_keeps answer.Missed pid to hops line acted old mid g = same_keeps old mid g.same
+
+here_keeps : (from : ℕ) (m : Message) (acted : Acted) (old mid : Node) → HearsHere from m acted old mid → Keeps old mid
+here_keeps from (message.Call p r) acted old mid h = home_keeps old mid h.1.rest
+here_keeps from (message.Pause p room) acted old mid h = home_keeps old mid h.rest
+here_keeps from (message.Reply p d) acted old mid h = reply_keeps (is_stray old (child_in d.answer)) (Gets acted p d) acted old mid h
+here_keeps from (message.Poke p) acted old mid h = hosted_keeps old mid h.rest
+here_keeps from (message.Go p to hops line) acted old mid h = go_keeps (answer_at old p to) p to hops line acted old mid h
+here_keeps from (message.NotHere p to hops line) acted old mid h = home_keeps old mid h.rest
+here_keeps from (message.NoMove line) acted old mid h = same_keeps old mid h.same
+here_keeps from _ acted old mid h = absurd h
+
+any_keeps : (from : ℕ) (m : Message) (acted : Acted) (old mid : Node) → HearsAny from m acted old mid → Keeps old mid
+any_keeps from m acted old mid h = go (is_misplaced old from m) h
+  where
+    go : (b : Bool) → MatchBool b (IsStrange acted old mid) (HearsHere from m acted old mid) → Keeps old mid
+    go true s = same_keeps old mid s.same
+    go false x = here_keeps from m acted old mid x
+
+context_keeps : (pid : ℕ) (acted : Acted) (old mid : Node) → ContextActs pid acted old mid → Keeps old mid
+context_keeps pid acted old mid c = go (poked_as (lookup pid old.hosted)) c
+  where
+    steps : (k : ℕ) → kinds.Steps k pid acted old mid → Keeps old mid
+    steps k s = record { journal = ap (λ (n : Node). n.journal) s.rest; rotation = ap (λ (n : Node). n.rotation) s.rest }
+
+    unpoked : ((k : ℕ) × kinds.Steps k pid acted old mid) ⊎ OnHosted (Sends acted pid) old mid → Keeps old mid
+    unpoked (inl (k, s)) = steps k s
+    unpoked (inr o) = hosted_keeps old mid o.rest
+
+    go : (b : Bool) → MatchBool b (OnHosted (Heeds acted pid) old mid) (((k : ℕ) × kinds.Steps k pid acted old mid) ⊎ OnHosted (Sends acted pid) old mid) → Keeps old mid
+    go true o = hosted_keeps old mid o.rest
+    go false x = unpoked x
+
+line_keeps : (line : ℕ) (t : Task) (acted : Acted) (old mid : Node) → LineActs line t acted old mid → Keeps old mid
+line_keeps line task.Launch acted old mid l = record { journal = ap (λ (n : Node). n.journal) l.rest; rotation = ap (λ (n : Node). n.rotation) l.rest }
+line_keeps line (task.Kill pid signal) acted old mid l = record { journal = ap (λ (n : Node). n.journal) l.rest; rotation = ap (λ (n : Node). n.rotation) l.rest }
+line_keeps line (task.Move pid to) acted old mid l = record { journal = ap (λ (n : Node). n.journal) l.rest; rotation = ap (λ (n : Node). n.rotation) l.rest }
+line_keeps line task.Feed acted old mid l = record { journal = ap (λ (n : Node). n.journal) l.passes.rest; rotation = ap (λ (n : Node). n.rotation) l.passes.rest }
+line_keeps line task.End acted old mid l = record { journal = ap (λ (n : Node). n.journal) l.rest; rotation = ap (λ (n : Node). n.rotation) l.rest }
+line_keeps line task.Pass acted old mid l = record { journal = ap (λ (n : Node). n.journal) l.rest; rotation = ap (λ (n : Node). n.rotation) l.rest }
+
+runs_keeps : (context : Option ℕ) (acted : Acted) (old mid : Node) → RunsContext context acted old mid → Keeps old mid
+runs_keeps None acted old mid r = absurd r
+runs_keeps (Some pid) acted old mid r = context_keeps pid acted old mid r
+
+task_keeps : (next : Option (ℕ × Task)) (acted : Acted) (old mid : Node) → TaskActs next acted old mid → Keeps old mid
+task_keeps None acted old mid t = absurd t
+task_keeps (Some next) acted old mid t = line_keeps next.0 next.1 acted old mid t
+
+carries_keeps : (k : Kind) (context : Option ℕ) (acted : Acted) (old mid : Node) → CarriesOut k context acted old mid → Keeps old mid
+carries_keeps kind.Retry context acted old mid c = home_keeps old mid c.rest
+carries_keeps kind.Context context acted old mid c = runs_keeps context acted old mid c
+carries_keeps kind.Line context acted old mid c = task_keeps _ acted old mid c
+carries_keeps kind.Half context acted old mid c = absurd c
+
+-- ---- a letter was heard
+
+pub heard_room : (from : ℕ) (m : Message) (acted : Acted) (old mid : Node) → HearsAny from m acted old mid → length old.journal.events < old.journal.room → length mid.journal.events < mid.journal.room
+heard_room from m acted old mid h room = let k = any_keeps from m acted old mid h in subst (λ (j : JournalState). length j.events < j.room) (sym k.journal) room
+
+pub heard_took : (l : Letter) (old mid new : Node) (stamp : ℕ) (acted : Acted) → is_odd old l ≡ false → length old.journal.events < old.journal.room → IsStamp old.clock l.stamp stamp → HearsAny l.from l.message acted old mid
+    → new ≡ settled_in stamp acted mid → Heard l old new ⊎ Passed l old new
+heard_took l old mid new stamp acted usual space stamp_is hears settled = inl (record { usual = usual; space = space; stamp = stamp; stamp_is = stamp_is; acted = acted; mid = mid; hears = hears; settled = settled })
+
+-- ---- a reply
+
+pub got_is : (pid : ℕ) (done : Done) (acted : Acted) (old : Node) (h : List code_context.Context) → is_stray old (child_in done.answer) ≡ false → Gets acted pid done old.hosted h → HearsReply pid done acted old (record old { hosted = h })
+got_is pid done acted old h known g = subst (λ (b : Bool). MatchBool b (IsStrange acted old (record old { hosted = h })) (OnHosted (Gets acted pid done) old (record old { hosted = h }))) (sym known) (record { does = g; rest = refl })
+
+-- ---- a kind of turn was carried out
+
+pub carried_room : (k : Kind) (context : Option ℕ) (acted : Acted) (old mid : Node) → CarriesOut k context acted old mid → length old.journal.events < old.journal.room → length mid.journal.events < mid.journal.room
+carried_room k context acted old mid c room = let s = carries_keeps k context acted old mid c in subst (λ (j : JournalState). length j.events < j.room) (sym s.journal) room
+
+pub went_is : (old mid new : Node) (k : Kind) (ready : Ready) (stamp : ℕ) (acted : Acted) (r : Rotation) → IsReady old ready → picked old.rotation.last ready ≡ Some k → old.shape.nodes ≤ 1 → length old.journal.events < old.journal.room
+    → IsStamp old.clock 0 stamp → CarriesOut k ready.context acted old mid → r ≡ rotated mid.rotation k ready.context → new ≡ settled_in stamp acted (record mid { rotation = r }) → Went old new
+went_is old mid new k ready stamp acted r is picks alone space stamp_is carries r_is settled =
+    let s = carries_keeps k ready.context acted old mid carries in
+    record {
+      kind = k;
+      picks = record { ready = ready; is = is; picked = picks; alone = alone };
+      space = space;
+      stamp = stamp;
+      stamp_is = stamp_is;
+      acted = acted;
+      mid = mid;
+      carries = carries;
+      settled = settled ∙ ap (λ (x : Rotation). settled_in stamp acted (record mid { rotation = x })) (r_is ∙ ap (λ (x : Rotation). rotated x k ready.context) s.rotation);
+    }
