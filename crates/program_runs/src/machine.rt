@@ -96,24 +96,24 @@ fn turns(step: &Option<Step>) -> bool {
     matches!(step, Some(Step::Steps { k, .. }) if *k == QUANTUM)
 }
 
-/// The steps of a run: where no process can go, or one turns without an end, the next thing is done from outside.
+/// Whether something is done from outside now: no process can go, or one turns without an end and nothing was raised there yet.
+fn is_outside(next: &Option<Step>, last: Option<&Step>) -> bool {
+    next.is_none() || (turns(next) && !matches!(last, Some(Step::Raise { .. })))
+}
+
+/// The steps of a run. It ends where nothing is left to do.
 pub fn steps(alloc: Global, setup: &Setup, outside: &[Step]) -> Result<Vec<Step>, Fail> {
     let mut home = Home::new(alloc);
     let mut steps = vec![in alloc; Step::Launch(0)]?;
     home.apply(alloc, setup, &Step::Launch(0))?;
-    let mut done = 0;
+    let mut rest = outside.iter();
     for _i in 0..MOST {
-        let next = lowest(alloc, &home)?;
-        let step = if next.is_none()
-            || (turns(&next) && !matches!(steps.last(), Some(Step::Raise { .. })))
-        {
-            let Some(step) = outside.get(done) else {
-                return Ok(steps);
-            };
-            done += 1;
-            *step
-        } else {
-            next.ok_or("a step")?
+        let mut next = lowest(alloc, &home)?;
+        if is_outside(&next, steps.last()) {
+            next = rest.next().copied();
+        }
+        let Some(step) = next else {
+            return Ok(steps);
         };
         if home.apply(alloc, setup, &step)? == Applied::Not {
             return Err("a step that is not enabled")?;
