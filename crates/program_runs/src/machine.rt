@@ -1,5 +1,5 @@
 // A plain driver of the one-node machine: the lowest process that can go makes its next step.
-use call_table::{Bytes, NoMemory, Text, Words};
+use call_table::{Bytes, NoMemory, Words};
 use elf_load::load;
 use one_node::home::{Applied, Home};
 use one_node::{Feeds, Setup, Step};
@@ -23,13 +23,6 @@ pub fn lines(alloc: Global, text: &str) -> Result<Bytes, NoMemory> {
     Ok(bytes)
 }
 
-/// The words of a program.
-fn words(alloc: Global) -> Result<Words, NoMemory> {
-    let mut words = Words::new(alloc);
-    words.push(Text::new(alloc, "program")?)?;
-    Ok(words)
-}
-
 /// What may be typed.
 fn feeds(alloc: Global, texts: &[&str]) -> Result<Feeds, NoMemory> {
     let mut feeds = Feeds::new(alloc);
@@ -44,7 +37,7 @@ pub fn setup(alloc: Global, text: &str, typed: &[&str]) -> Result<Setup, Fail> {
     let text = lines(alloc, text)?;
     let file = assemble(alloc, text.as_slice())?;
     let mut users = Users::new(alloc);
-    users.push(load(alloc, file.as_slice(), &words(alloc)?)?)?;
+    users.push(load(alloc, file.as_slice(), &Words::new(alloc))?)?;
     Ok(Setup {
         users,
         feeds: feeds(alloc, typed)?,

@@ -1,8 +1,7 @@
 // The plain system on one node by its own calls, with memory enough.
 use crate::images::{HELLO, program};
-use crate::in_memory::words_of;
 use crate::runs::REPLIES;
-use call_table::{End, PidState};
+use call_table::{End, PidState, Words};
 use elf_load::load;
 use one_node::going::Ran;
 use one_node::home::{Applied, Home, Outcome};
@@ -18,11 +17,10 @@ fn hello(alloc: Global) -> Result<Setup, Fail> {
     setup_of(alloc, &HELLO)
 }
 
-/// The process of a file alone.
+/// The process of a file alone, without words.
 fn setup_of(alloc: Global, file: &[u8]) -> Result<Setup, Fail> {
-    let words = words_of(alloc, &["hello"])?;
     let mut users = Users::new(alloc);
-    users.push(load(alloc, file, &words)?)?;
+    users.push(load(alloc, file, &Words::new(alloc))?)?;
     Ok(Setup {
         users,
         feeds: Feeds::new(alloc),
