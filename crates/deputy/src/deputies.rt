@@ -134,6 +134,7 @@ impl Deputies {
     pub fn due(&self) -> bool
         ensures is { result ≡ is_some (next_ready self.now) }
         ensures each { length self.now.rows ≡ given self.now.kernel }
+        ensures held { (pid : ℕ) (call : HeldCall) → held_at self.now.rows pid ≡ Some call → CanWait self.now.kernel pid call.request }
     {
         !self.settled && next_ready(&self.kernel, &self.rows).is_some()
     }

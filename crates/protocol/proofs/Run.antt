@@ -17,25 +17,25 @@ use Rattle.std.specs.Prelude.{ℤ}
 use Rattle.call_table.specs.declared.process.End.{End}
 
 module _ (O : Ops) where
-  -- letters for home go to home, those of a line are of its move, a landing is told with its number, and their pids were given, of k; the places of a half name nodes of the cluster
-  abbrev pub Bound : ℕ → Note O → ℕ → Type 0
-  Bound k (Call p r) b = Unit {0}
-  Bound k (Pause p r) b = Unit {0}
-  Bound k (Reply p d) b = Unit {0}
-  Bound k (Poke p) b = Unit {0}
-  Bound k (Half places) b = NearPlaces O.nodes places
-  Bound k (Go p to hops line) b = IsMove O line p to × (to < O.nodes) × Given O k p
-  Bound k (NotHere p to hops line) b = (b ≡ 0) × IsMove O line p to × (to < O.nodes) × Given O k p
-  Bound k (Ask p need) b = Unit {0}
-  Bound k (Allow p) b = Unit {0}
-  Bound k (Deny p need free) b = Unit {0}
-  Bound k (Move p u hops line) b = Unit {0}
-  Bound k (Landed p source hops line) b = (b ≡ 0) × (1 ≤ hops) × (source < O.nodes) × Given O k p
-  Bound k (NoMove line) b = b ≡ 0
+  -- letters for home go to home, those of a line are of its move, a landing is told with its number, and their pids were given, of k; a half goes to another node, and its places name nodes of the cluster
+  abbrev pub Bound : ℕ → Note O → ℕ → ℕ → Type 0
+  Bound k (Call p r) a b = Unit {0}
+  Bound k (Pause p r) a b = Unit {0}
+  Bound k (Reply p d) a b = Unit {0}
+  Bound k (Poke p) a b = Unit {0}
+  Bound k (Half places) a b = NearPlaces O.nodes places × (a ≢ b)
+  Bound k (Go p to hops line) a b = IsMove O line p to × (to < O.nodes) × Given O k p
+  Bound k (NotHere p to hops line) a b = (b ≡ 0) × IsMove O line p to × (to < O.nodes) × Given O k p
+  Bound k (Ask p need) a b = Unit {0}
+  Bound k (Allow p) a b = Unit {0}
+  Bound k (Deny p need free) a b = Unit {0}
+  Bound k (Move p u hops line) a b = Unit {0}
+  Bound k (Landed p source hops line) a b = (b ≡ 0) × (1 ≤ hops) × (source < O.nodes) × Given O k p
+  Bound k (NoMove line) a b = b ≡ 0
 
   abbrev pub BoundOf : ℕ → Option (Post O) → Type 0
   BoundOf k None = Unit {0}
-  BoundOf k (Some l) = Bound k l.note l.to × (l.from < O.nodes)
+  BoundOf k (Some l) = Bound k l.note l.from l.to × (l.from < O.nodes)
 
   module _ (w : World O) (t : Turn O) (v : World O) (goes : Goes O w t v) where
     abbrev n : ℕ
@@ -101,7 +101,7 @@ module _ (O : Ops) where
             let z : true ≡ false = sym (subst (Right O) is knows.right) ∙ (λ i. fits_done O (pause_of x (c i).state) (c i).body.user d) ∙ wrong.4 in cc
         go (body, kept, x, y, is, e) (inr (inr wrong)) = child d.child (ap (brings O) is) wrong
     fits (Poke q) from s knows at own h mis = mis
-    fits (Half places) from s knows at own h mis = mis
+    fits (Half places) from s knows at own h mis = way_tells O 0 s (way O from n (Half places)) h
     fits (Go q to hops line) from s knows at own h mis = mis
     fits (NotHere q to hops line) from s knows at own h mis = way_tells O q s (way O from n (NotHere q to hops line)) h
     fits (Ask q need) from s knows at own h mis = go (way_tells O q s (way O from n (Ask q need)) h) mis
@@ -143,12 +143,12 @@ module _ (O : Ops) where
     skip_own : (p : ℕ) (s : Spot O) → Knows p s → BoundOf births t.taken → At O p s w → Skips O n p old t new → ⊥
     skip_own p s knows bound at d = go (mine O p d.note) refl d.misfit
       where
-        bad : (m : Note O) → mine O p m ≡ false → pid_of_note O m ≡ p → Bound births m n → Misfit O n d.from old m → ⊥
+        bad : (m : Note O) → mine O p m ≡ false → pid_of_note O m ≡ p → Bound births m d.from n → Misfit O n d.from old m → ⊥
         bad (Call q r) e f b mis = let z : true ≡ false = sym (same_numbers q p f) ∙ e in absurd cc
         bad (Pause q r) e f b mis = let z : true ≡ false = sym (same_numbers q p f) ∙ e in absurd cc
         bad (Reply q r) e f b mis = let z : true ≡ false = sym (same_numbers q p f) ∙ e in absurd cc
         bad (Poke q) e f b mis = mis
-        bad (Half places) e f b mis = mis
+        bad (Half places) e f b mis = b.1 mis
         bad (Go q to hops line) e f b mis = mis
         bad (NotHere q to hops line) e f b (inl x) = x b.0
         bad (NotHere q to hops line) e f b (inr x) = was_given q b.0 b.3 x
@@ -160,12 +160,12 @@ module _ (O : Ops) where
         bad (Landed q source hops line) e f b (inr x) = was_given q b.0 b.3 x
         bad (NoMove line) e f b mis = mis b
 
-        near : (m : Note O) → Bound births m n → FarNode O m → ⊥
+        near : (m : Note O) → Bound births m d.from n → FarNode O m → ⊥
         near (Call q r) b far = far
         near (Pause q r) b far = far
         near (Reply q r) b far = far
         near (Poke q) b far = far
-        near (Half places) b far = not_far O.nodes places b far
+        near (Half places) b far = not_far O.nodes places b.0 far
         near (Go q to hops line) b far = omega (arith, b.1, far)
         near (NotHere q to hops line) b far = omega (arith, b.2, far)
         near (Ask q need) b far = far
@@ -175,7 +175,7 @@ module _ (O : Ops) where
         near (Landed q source hops line) b far = omega (arith, b.2, far)
         near (NoMove line) b far = far
 
-        here : Bound births d.note n × (d.from < O.nodes)
+        here : Bound births d.note d.from n × (d.from < O.nodes)
         here = subst (BoundOf births) d.base.took bound
 
         own : mine O p d.note ≡ true → mine O (pid_of_note O d.note) d.note ≡ true

@@ -7,7 +7,7 @@ use Rattle.protocol.specs.Spots.{Spot, Nowhere, Runs, Calls, Holds, Pauses, Answ
 use Rattle.protocol.specs.Cluster.{World, for_link, at_front, Goes, Starts, Reached}
 use Rattle.protocol.specs.Gossip.{Entry, Gossip, NearPlaces, renewed, told_places, Choice, Talk, Silent, Stepping, Talking, talk_of}
 use Rattle.protocol.proofs.Places.{near_renewed, near_first, near_woven}
-use Rattle.protocol.proofs.Talking.{GossipBy, gossip_by, own_below}
+use Rattle.protocol.proofs.Talking.{GossipBy, gossip_by, own_below, half_apart}
 use Rattle.protocol.specs.Does.{Does, ServedBy, Talks, Lands, Reserved, is_reserved, got_posts}
 use Rattle.protocol.specs.Home.{after, pokes, line_closed, Given, NeverGiven}
 use Rattle.protocol.specs.Needs.{Names, Needs, Aims, Coupled, brings, user_at, born_spot, next_spot, alive, Right, Named}
@@ -27,27 +27,27 @@ use Rattle.call_table.specs.declared.process.End.{End}
 module _ (O : Ops) (S : Sound O) where
   abbrev pub EachBound : ℕ → List (Post O) → Type 0
   EachBound k [] = Unit {0}
-  EachBound k (l ∷ ls) = (Bound O k l.note l.to × (l.from < O.nodes)) × EachBound k ls
+  EachBound k (l ∷ ls) = (Bound O k l.note l.from l.to × (l.from < O.nodes)) × EachBound k ls
 
   -- later, more pids were given
-  bound_later : (k k2 : ℕ) → k ≤ k2 → (m : Note O) (b : ℕ) → Bound O k m b → Bound O k2 m b
-  bound_later k k2 less (Call p r) b x = tt
-  bound_later k k2 less (Pause p r) b x = tt
-  bound_later k k2 less (Reply p d) b x = tt
-  bound_later k k2 less (Poke p) b x = tt
-  bound_later k k2 less (Half places) b x = x
-  bound_later k k2 less (Go p to hops line) b x = (x.0, x.1, (x.2.0, omega (arith, x.2.1, less)))
-  bound_later k k2 less (NotHere p to hops line) b x = (x.0, x.1, x.2, (x.3.0, omega (arith, x.3.1, less)))
-  bound_later k k2 less (Ask p need) b x = tt
-  bound_later k k2 less (Allow p) b x = tt
-  bound_later k k2 less (Deny p need free) b x = tt
-  bound_later k k2 less (Move p u hops line) b x = tt
-  bound_later k k2 less (Landed p source hops line) b x = (x.0, x.1, x.2, (x.3.0, omega (arith, x.3.1, less)))
-  bound_later k k2 less (NoMove line) b x = x
+  bound_later : (k k2 : ℕ) → k ≤ k2 → (m : Note O) (a b : ℕ) → Bound O k m a b → Bound O k2 m a b
+  bound_later k k2 less (Call p r) a b x = tt
+  bound_later k k2 less (Pause p r) a b x = tt
+  bound_later k k2 less (Reply p d) a b x = tt
+  bound_later k k2 less (Poke p) a b x = tt
+  bound_later k k2 less (Half places) a b x = x
+  bound_later k k2 less (Go p to hops line) a b x = (x.0, x.1, (x.2.0, omega (arith, x.2.1, less)))
+  bound_later k k2 less (NotHere p to hops line) a b x = (x.0, x.1, x.2, (x.3.0, omega (arith, x.3.1, less)))
+  bound_later k k2 less (Ask p need) a b x = tt
+  bound_later k k2 less (Allow p) a b x = tt
+  bound_later k k2 less (Deny p need free) a b x = tt
+  bound_later k k2 less (Move p u hops line) a b x = tt
+  bound_later k k2 less (Landed p source hops line) a b x = (x.0, x.1, x.2, (x.3.0, omega (arith, x.3.1, less)))
+  bound_later k k2 less (NoMove line) a b x = x
 
   all_later : (k k2 : ℕ) → k ≤ k2 → (ls : List (Post O)) → EachBound k ls → EachBound k2 ls
   all_later k k2 less [] x = tt
-  all_later k k2 less (l ∷ ls) x = ((bound_later k k2 less l.note l.to x.0.0, x.0.1), all_later k k2 less ls x.1)
+  all_later k k2 less (l ∷ ls) x = ((bound_later k k2 less l.note l.from l.to x.0.0, x.0.1), all_later k k2 less ls x.1)
 
   bound_right : (n : ℕ) (xs ys : List (Post O)) → EachBound n (xs ++ ys) → EachBound n ys
   bound_right n [] ys p = p
@@ -140,7 +140,7 @@ module _ (O : Ops) (S : Sound O) where
     posts_bound (Poked p true) near lives landed bound d = by_base _ d.base.posts tt
     posts_bound (Poked p false) near lives landed bound d = by_base _ d.base.posts tt
     posts_bound (Begin p to (ForLine line)) near lives landed bound d = by_base _ d.base.posts ((tt, below), tt)
-    posts_bound (Begin p to (Chosen false other)) near lives landed bound d = by_base _ d.base.posts ((told_near other _ near d.why, below), ((tt, below), tt))
+    posts_bound (Begin p to (Chosen false other)) near lives landed bound d = by_base _ d.base.posts (((told_near other _ near d.why, half_apart O n old t new other _ d.why), below), ((tt, below), tt))
     posts_bound (Begin p to (Chosen true other)) near lives landed bound d = by_base _ d.base.posts ((tt, below), tt)
     posts_bound (Keep p to line) near lives landed bound d = by_base _ d.base.posts tt
     posts_bound (Missed p to line) near lives landed bound d = by_base _ d.base.posts ((let x = (subst (BoundOf O births) d.base.took bound).0 in ((refl, x.0, x.1, x.2), below)), tt)
@@ -154,7 +154,7 @@ module _ (O : Ops) (S : Sound O) where
     posts_bound (Refused p to why line) near lives landed bound (inl d) = by_base _ d.base.posts ((refl, below), tt)
     posts_bound (Refused p to why line) near lives landed bound (inr d) = by_base _ d.base.posts tt
     posts_bound (Closed line) near lives landed bound d = by_base _ d.base.posts tt
-    posts_bound (Gossips false other) near lives landed bound d = by_base _ d.base.posts ((told_near other _ near d.talks, below), tt)
+    posts_bound (Gossips false other) near lives landed bound d = by_base _ d.base.posts (((told_near other _ near d.talks, half_apart O n old t new other _ d.talks), below), tt)
     posts_bound (Gossips true other) near lives landed bound d = by_base _ d.base.posts tt
     posts_bound (Strange p) near lives landed bound d = by_base _ d.base.posts tt
 
@@ -621,7 +621,7 @@ module _ (O : Ops) (S : Sound O) where
         (bound_link so_many a b t.posted (posts_bound w t v goes what (st.near m) home_live landed taken_bound goes.makes.does))))
 
     heard_bound : (other : ℕ) (places : List (Option Entry)) (stamp : ℕ) → t.taken ≡ Some (letter O other m stamp (Half places)) → NearPlaces O.nodes places
-    heard_bound other places stamp e = (subst (BoundOf O so_many) e taken_bound).0
+    heard_bound other places stamp e = (subst (BoundOf O so_many) e taken_bound).0.0
 
     -- the nodes that a vector names are of the cluster
     near_own : (k : Talk) → GossipBy O k m (w.nodes m) t (v.nodes m) → NearPlaces O.nodes (w.nodes m).gossip.vector → NearPlaces O.nodes (v.nodes m).gossip.vector

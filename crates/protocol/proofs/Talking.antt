@@ -1,12 +1,20 @@
 -- What each event is to gossip: it leaves what its node keeps of it, counts a quantum of steps, or is a half that is sent or heard.
-use Rattle.std.proofs.Common.{◌≡◌, ℕ, ◌<◌, ◌≤◌, inl, inr, Bool, true, false, Option, List, [], ◌∷◌, ◌++◌, sym, ap, subst}
-use Rattle.std.specs.Prelude.{ℤ}
+use Rattle.std.proofs.Common.{◌≡◌, ◌≢◌, ℕ, ◌+◌, ◌<◌, ◌≤◌, inl, inr, Bool, true, false, cond, Option, List, [], ◌∷◌, ◌++◌, refl, sym, ap, ◌∙◌, subst, arith}
+use Rattle.std.specs.Prelude.{ℤ, nat_lt}
+use Rattle.std.proofs.lemmas.Bool.Decides.{nat_tests}
 use Rattle.call_table.specs.declared.process.End.{End}
 use Rattle.protocol.specs.Ops.{Ops}
-use Rattle.protocol.specs.Gossip.{Entry, one_step, Choice, Talk, Silent, Stepping, Talking, talk_of}
+use Rattle.protocol.specs.Gossip.{Entry, Gossip, one_step, other_at, Choice, Talk, Silent, Stepping, Talking, talk_of}
 use Rattle.protocol.specs.Deeds.{Manner, Did, Broke, Fell, Paused, ForLine, Chosen, Deed, Run, Kill, Bid, Unsent, Other, Steps, Sent, Heed, Held, Served, Got, Poked, Begin, Keep, Missed, Again, Allows, Denies, Depart, Stay, Land, Told, Refused, Closed, Gossips, Strange}
 use Rattle.protocol.specs.Notes.{Note, Half, Post, Turn, Local}
-use Rattle.protocol.specs.Does.{Does, ServedBy, Talks, half_taken, half_posts}
+use Rattle.protocol.specs.Does.{Does, ServedBy, NoneRuns, HalfDueTo, Talks, half_taken, half_posts}
+
+pub other_apart : (n k : ℕ) → other_at n k ≢ n
+other_apart n k = go (nat_lt k n) refl
+  where
+    go : (b : Bool) → nat_lt k n ≡ b → cond b k (k + 1) ≢ n
+    go true e x = grind (arith, nat_tests, e, x)
+    go false e x = grind (arith, nat_tests, e, x)
 
 module _ (O : Ops) where
   -- no half is among these letters
@@ -76,3 +84,11 @@ module _ (O : Ops) where
     -- its own entry is of its node
     pub own_below : (heard : Bool) (other : ℕ) (chosen : Option Choice) → n < O.nodes → (d : Talks O heard n other chosen old t new) → d.own.node < O.nodes
     own_below heard other chosen below d = subst (λ (k : ℕ). k < O.nodes) (sym (ap (λ (e : Entry). e.node) d.own_is)) below
+
+    -- a half that is sent goes to another node
+    due_apart : (other load free : ℕ) (P : Type 0) (g : Gossip) → HalfDueTo O n other load free P g → n ≢ other
+    due_apart other load free P g (inl due) e = other_apart n g.sent (sym due.1 ∙ sym e)
+    due_apart other load free P g (inr due) e = other_apart n _ (sym due.1 ∙ sym e)
+
+    pub half_apart : (other : ℕ) (chosen : Option Choice) → Talks O false n other chosen old t new → n ≢ other
+    half_apart other chosen d = due_apart other d.own.load d.own.free (NoneRuns O old) old.gossip d.sends.1

@@ -568,7 +568,7 @@ module _ (O : Ops) where
   Misfit n from old (Pause p r) = (n ≢ 0) ⊎ ((O.live old.kernel p ≡ false) ⊎ ((old.slots p).call ≢ None))
   Misfit n from old (Reply p d) = NotWaiting (old.slots p).context ⊎ (WrongDone (old.slots p).context d ⊎ WrongChild n old d.child)
   Misfit n from old (Poke p) = ⊥
-  Misfit n from old (Half places) = ⊥
+  Misfit n from old (Half places) = from ≡ n
   Misfit n from old (Go p to hops line) = ⊥
   Misfit n from old (NotHere p to hops line) = (n ≢ 0) ⊎ NeverGiven O old.kernel p
   Misfit n from old (Ask p need) = ((old.slots p).context ≢ None) ⊎ (((old.slots p).reserve ≢ None) ⊎ (((n ≡ 0) × NeverGiven O old.kernel p) ⊎ ((total : ℕ) × Reserved old total × (64 ≤ total))))

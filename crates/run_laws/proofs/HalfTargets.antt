@@ -8,6 +8,7 @@ use Rattle.protocol.specs.Gossip.{Entry, Gossip, Choice, IsKnown, later, newest,
 use Rattle.protocol.specs.Notes.{Turn, Local}
 use Rattle.protocol.specs.Does.{NoneRuns, HalfDueTo, Talks}
 use Rattle.protocol.proofs.Talk.{numbers_same}
+use Rattle.protocol.proofs.Talking.{other_apart}
 
 pub other_below : (nodes n k : ℕ) → k + 1 < nodes → other_at n k < nodes
 other_below nodes n k more = go (nat_lt k n)
@@ -15,13 +16,6 @@ other_below nodes n k more = go (nat_lt k n)
     go : (b : Bool) → cond b k (k + 1) < nodes
     go true = omega (arith, more)
     go false = more
-
-pub other_apart : (n k : ℕ) → other_at n k ≢ n
-other_apart n k = go (nat_lt k n) refl
-  where
-    go : (b : Bool) → nat_lt k n ≡ b → cond b k (k + 1) ≢ n
-    go true e x = grind (arith, nat_tests, e, x)
-    go false e x = grind (arith, nat_tests, e, x)
 
 -- the newest entry of a node is of that node
 later_node : (m : ℕ) (e f : Entry) (o : Option Entry) → e.node ≡ m → ((g : Entry) → o ≡ Some g → g.node ≡ m) → later e o ≡ Some f → f.node ≡ m

@@ -295,8 +295,8 @@ module _ (O : Ops) (S : Sound O) where
         go (inl x) = let z : [] ≡ l ∷ rest = sym (far_to O S some h sp w path a b x.1) ∙ lies in absurd cc
         go (inr x) = x.1
 
-    bound : Bound O (O.count (w.nodes 0).kernel) l.note b
-    bound = subst (λ (k : ℕ). Bound O (O.count (w.nodes 0).kernel) l.note k) here.1 (subst (EachBound O S (O.count (w.nodes 0).kernel)) lies (st.bound a b)).0.0
+    bound : Bound O (O.count (w.nodes 0).kernel) l.note l.from b
+    bound = subst (λ (k : ℕ). Bound O (O.count (w.nodes 0).kernel) l.note l.from k) here.1 (subst (EachBound O S (O.count (w.nodes 0).kernel)) lies (st.bound a b)).0.0
 
     under : (p : ℕ) (m : Note O) → l.note ≡ m → mine O p m ≡ true → way_by O p (sp p) ≡ Some (way O a b m)
     under p m is own = front_way (way_by O p (sp p)) a b m (talk O p rest) (sym talks ∙ (st.at p).letters a b)
@@ -317,13 +317,13 @@ module _ (O : Ops) (S : Sound O) where
     made (Poke p) e = poke_made b (w.nodes b) below a l.stamp p
     made (Half places) e = half_made b (w.nodes b) below a l.stamp places _ _ (loaded O S sp w st b) (in_use O S sp w st b) _ (can_move O S sp w st b) answers
     made (Go p to hops line) e = go_made b (w.nodes b) below a l.stamp p to hops line
-    made (NotHere p to hops line) e = back_made b (w.nodes b) below a l.stamp (subst (λ (m : Note O). Bound O (O.count (w.nodes 0).kernel) m b) e bound).0 p to hops line
+    made (NotHere p to hops line) e = back_made b (w.nodes b) below a l.stamp (subst (λ (m : Note O). Bound O (O.count (w.nodes 0).kernel) m l.from b) e bound).0 p to hops line
     made (Ask p need) e = ask_made b (w.nodes b) below a l.stamp p need _ (in_use O S sp w st b)
     made (Allow p) e = let t = way_tells O p (sp p) _ (under p (Allow p) e (same_numbers p p refl)) in allow_made b (w.nodes b) below a l.stamp p t.0 t.1 (context_at p (Granted b t.0 a t.1 t.2) (context O t.0 (Asking a t.1)) t.3 (cond_here b _ None))
     made (Deny p need free) e = let t = way_tells O p (sp p) _ (under p (Deny p need free) e (same_numbers p p refl)) in deny_made b (w.nodes b) below a l.stamp p need free t.0 t.1 (context_at p (Denied b t.0 a t.1 need free) (context O t.0 (Asking a t.1)) t.2 (cond_here b _ None))
     made (Move p u hops line) e = move_made b (w.nodes b) below a l.stamp p u hops line
-    made (Landed p source hops line) e = landed_made b (w.nodes b) below a l.stamp (subst (λ (m : Note O). Bound O (O.count (w.nodes 0).kernel) m b) e bound).0 p source hops line
-    made (NoMove line) e = close_made b (w.nodes b) below a l.stamp (subst (λ (m : Note O). Bound O (O.count (w.nodes 0).kernel) m b) e bound) line
+    made (Landed p source hops line) e = landed_made b (w.nodes b) below a l.stamp (subst (λ (m : Note O). Bound O (O.count (w.nodes 0).kernel) m l.from b) e bound).0 p source hops line
+    made (NoMove line) e = close_made b (w.nodes b) below a l.stamp (subst (λ (m : Note O). Bound O (O.count (w.nodes 0).kernel) m l.from b) e bound) line
 
     same_letter : letter O a b l.stamp l.note ≡ l
     same_letter = λ i. record { from = (sym here.0) i; to = (sym here.1) i; stamp = l.stamp; note = l.note }
