@@ -33,6 +33,10 @@ use Rattle.node_core.specs.Rotation.{picked, rotated}
 use Rattle.node_core.specs.Turns.{settled_in}
 use Rattle.node_core.specs.Kinds.{BeginsMove, IsReady, IsStrange, OnHosted, HearsHere, HearsReply, GoActs, answer_at, is_misplaced, is_stray, stepped, ContextActs, RunsContext, TaskActs, LineActs, CarriesOut, Launches, advanced}
 use Rattle.node_core.specs.Kinds as kinds
+use Rattle.migrate_proto.specs.declared.reserve.Decision.{Decision}
+use Rattle.migrate_proto.specs.declared.reserve.Decision.TheVariants as decided
+use Rattle.migrate_proto.specs.Reservations.{decision}
+use Rattle.node_core.specs.Moves.{may_come, free_at, AnswersAsk, Decides, asked_of, AllowedFor, DeniedFor, may_land, landings, LandsHere}
 use Rattle.node_core.specs.Turning.{is_odd, IsStamp, HearsAny, Heard, Passed, Went}
 
 -- ---- a move begins
@@ -110,6 +114,26 @@ go_keeps answer.There pid to hops line acted old mid g = same_keeps old mid g.sa
 go_keeps answer.Moving pid to hops line acted old mid g = same_keeps old mid g.same
 go_keeps answer.Missed pid to hops line acted old mid g = same_keeps old mid g.same
 
+decided_keeps : (d : Decision) (pid from need : ℕ) (acted : Acted) (old mid : Node) → AnswersAsk d pid from need acted old mid → Keeps old mid
+decided_keeps decided.Allow pid from need acted old mid r = record { journal = ap (λ (n : Node). n.journal) r.rest; rotation = ap (λ (n : Node). n.rotation) r.rest }
+decided_keeps (decided.Deny wanted free) pid from need acted old mid s = same_keeps old mid s.same
+
+ask_keeps : (b : Bool) (from pid need : ℕ) (acted : Acted) (old mid : Node) → MatchBool b (Decides pid from need acted old mid) (IsStrange acted old mid) → Keeps old mid
+ask_keeps true from pid need acted old mid d = decided_keeps (decision need (free_at old)) pid from need acted old mid d.does
+ask_keeps false from pid need acted old mid s = same_keeps old mid s.same
+
+allow_keeps : (o : Option (Option ℕ)) (from pid : ℕ) (acted : Acted) (old mid : Node) → AllowedFor o from pid acted old mid → Keeps old mid
+allow_keeps None from pid acted old mid s = same_keeps old mid s.same
+allow_keeps (Some line) from pid acted old mid d = hosted_keeps old mid d.rest
+
+deny_keeps : (o : Option (Option ℕ)) (from pid need free : ℕ) (acted : Acted) (old mid : Node) → DeniedFor o from pid need free acted old mid → Keeps old mid
+deny_keeps None from pid need free acted old mid s = same_keeps old mid s.same
+deny_keeps (Some line) from pid need free acted old mid r = hosted_keeps old mid r.rest
+
+move_keeps : (b : Bool) (from pid : ℕ) (user : UserState) (hops : ℕ) (line : Option ℕ) (acted : Acted) (old mid : Node) → MatchBool b (LandsHere pid from user hops line acted old mid) (IsStrange acted old mid) → Keeps old mid
+move_keeps true from pid user hops line acted old mid l = record { journal = ap (λ (n : Node). n.journal) l.rest; rotation = ap (λ (n : Node). n.rotation) l.rest }
+move_keeps false from pid user hops line acted old mid s = same_keeps old mid s.same
+
 here_keeps : (from : ℕ) (m : Message) (acted : Acted) (old mid : Node) → HearsHere from m acted old mid → Keeps old mid
 here_keeps from (message.Call p r) acted old mid h = home_keeps old mid h.1.rest
 here_keeps from (message.Pause p room) acted old mid h = home_keeps old mid h.rest
@@ -118,7 +142,12 @@ here_keeps from (message.Poke p) acted old mid h = hosted_keeps old mid h.rest
 here_keeps from (message.Go p to hops line) acted old mid h = go_keeps (answer_at old p to) p to hops line acted old mid h
 here_keeps from (message.NotHere p to hops line) acted old mid h = home_keeps old mid h.rest
 here_keeps from (message.NoMove line) acted old mid h = same_keeps old mid h.same
-here_keeps from _ acted old mid h = absurd h
+here_keeps from (message.Ask p need) acted old mid h = ask_keeps (may_come old p) from p need acted old mid h
+here_keeps from (message.Allow p) acted old mid h = allow_keeps (asked_of old from p) from p acted old mid h
+here_keeps from (message.Deny p need free) acted old mid h = deny_keeps (asked_of old from p) from p need free acted old mid h
+here_keeps from (message.Move p u hops line) acted old mid h = move_keeps (may_land old p u) from p u (landings hops) line acted old mid h
+here_keeps from (message.Landed p source hops line) acted old mid h = home_keeps old mid h.home.rest
+here_keeps from (message.Half places) acted old mid h = same_keeps old mid h.1.same
 
 any_keeps : (from : ℕ) (m : Message) (acted : Acted) (old mid : Node) → HearsAny from m acted old mid → Keeps old mid
 any_keeps from m acted old mid h = go (is_misplaced old from m) h

@@ -28,6 +28,9 @@ use Rattle.node_core.proofs.Contexts.{poke_hears}
 use Rattle.node_core.proofs.Moving.{go_hears}
 use Rattle.node_core.proofs.Missing.{missed_hears, closed_hears}
 use Rattle.node_core.proofs.Replies.{reply_hears}
+use Rattle.node_core.proofs.Coming.{ask_hears, move_hears}
+use Rattle.node_core.proofs.Leaving.{allow_hears, deny_hears}
+use Rattle.node_core.proofs.Told.{landed_hears}
 
 -- ---- tests that fail or hold
 
@@ -74,6 +77,13 @@ at_most_not a b e = grind (arith, nat_tests, e)
 
 at_most_is : (a b : ℕ) → nat_le a b ≡ true → a ≤ b
 at_most_is a b e = grind (arith, nat_tests, e)
+
+below_of : (a b : ℕ) → (b ≤ a → ⊥) → a < b
+below_of a b h = go (nat_lt a b) refl
+  where
+    go : (k : Bool) → nat_lt a b ≡ k → a < b
+    go true e = below_is a b e
+    go false e = absurd (h (below_not a b e))
 
 -- ---- messages out of place
 
@@ -161,24 +171,29 @@ module _ (policy : Policy) (plan : Plan) where
 
   -- ---- messages in their place
 
-  here_hears : (old mid : Node) (stamp from sent : ℕ) (m : Message) (acted : Acted) → Suits plan old → is_misplaced old from m ≡ false → stamp ≤ stamp_end + (length old.journal.events + 1) → length old.journal.events < old.journal.room
+  here_hears : (old mid : Node) (stamp from sent : ℕ) (m : Message) (acted : Acted) → Suits plan old → is_misplaced old from m ≡ false → stamp ≤ stamp_end + (length old.journal.events + 1) → length old.journal.events < old.journal.room → (ManyHops (machine policy plan) (note_of policy plan m) → ⊥)
       → HearsHere from m acted old mid → Hears policy plan stamp old.id from sent m acted old mid
-  here_hears old mid stamp from sent (message.Call p r) acted suits placed early space (each, h) = call_hears policy plan old mid stamp from sent p r acted suits (home_of old from (message.Call p r) placed refl) (near_from old from (message.Call p r) suits.shape.nodes placed) early space each h
-  here_hears old mid stamp from sent (message.Pause p room) acted suits placed early space h = pause_hears policy plan old mid stamp from sent p room acted suits (home_of old from (message.Pause p room) placed refl) (near_from old from (message.Pause p room) suits.shape.nodes placed) early h
-  here_hears old mid stamp from sent (message.Reply p d) acted suits placed early space h = reply_hears policy plan old mid stamp from sent p d acted suits (near_from old from (message.Reply p d) suits.shape.nodes placed) early h
-  here_hears old mid stamp from sent (message.Poke p) acted suits placed early space h = poke_hears policy plan old mid stamp from sent p acted suits (near_from old from (message.Poke p) suits.shape.nodes placed) early h
-  here_hears old mid stamp from sent (message.Go p to hops line) acted suits placed early space h = go_hears policy plan old mid stamp from sent p to hops line acted suits (near_from old from (message.Go p to hops line) suits.shape.nodes placed) (near_node old from (message.Go p to hops line) to suits.shape.nodes refl placed) early h
-  here_hears old mid stamp from sent (message.NotHere p to hops line) acted suits placed early space h = missed_hears policy plan old mid stamp from sent p to hops line acted suits (home_of old from (message.NotHere p to hops line) placed refl) (near_from old from (message.NotHere p to hops line) suits.shape.nodes placed) (near_node old from (message.NotHere p to hops line) to suits.shape.nodes refl placed) early h
-  here_hears old mid stamp from sent (message.NoMove line) acted suits placed early space h = closed_hears policy plan old mid stamp from sent line acted suits (home_of old from (message.NoMove line) placed refl) (near_from old from (message.NoMove line) suits.shape.nodes placed) early h
-  here_hears old mid stamp from sent _ acted suits placed early space h = absurd h
+  here_hears old mid stamp from sent (message.Call p r) acted suits placed early space few (each, h) = call_hears policy plan old mid stamp from sent p r acted suits (home_of old from (message.Call p r) placed refl) (near_from old from (message.Call p r) suits.shape.nodes placed) early space each h
+  here_hears old mid stamp from sent (message.Pause p room) acted suits placed early space few h = pause_hears policy plan old mid stamp from sent p room acted suits (home_of old from (message.Pause p room) placed refl) (near_from old from (message.Pause p room) suits.shape.nodes placed) early h
+  here_hears old mid stamp from sent (message.Reply p d) acted suits placed early space few h = reply_hears policy plan old mid stamp from sent p d acted suits (near_from old from (message.Reply p d) suits.shape.nodes placed) early h
+  here_hears old mid stamp from sent (message.Poke p) acted suits placed early space few h = poke_hears policy plan old mid stamp from sent p acted suits (near_from old from (message.Poke p) suits.shape.nodes placed) early h
+  here_hears old mid stamp from sent (message.Go p to hops line) acted suits placed early space few h = go_hears policy plan old mid stamp from sent p to hops line acted suits (near_from old from (message.Go p to hops line) suits.shape.nodes placed) (near_node old from (message.Go p to hops line) to suits.shape.nodes refl placed) early h
+  here_hears old mid stamp from sent (message.NotHere p to hops line) acted suits placed early space few h = missed_hears policy plan old mid stamp from sent p to hops line acted suits (home_of old from (message.NotHere p to hops line) placed refl) (near_from old from (message.NotHere p to hops line) suits.shape.nodes placed) (near_node old from (message.NotHere p to hops line) to suits.shape.nodes refl placed) early h
+  here_hears old mid stamp from sent (message.NoMove line) acted suits placed early space few h = closed_hears policy plan old mid stamp from sent line acted suits (home_of old from (message.NoMove line) placed refl) (near_from old from (message.NoMove line) suits.shape.nodes placed) early h
+  here_hears old mid stamp from sent (message.Ask p need) acted suits placed early space few h = ask_hears policy plan old mid stamp from sent p need acted suits (near_from old from (message.Ask p need) suits.shape.nodes placed) early h
+  here_hears old mid stamp from sent (message.Allow p) acted suits placed early space few h = allow_hears policy plan old mid stamp from sent p acted suits (near_from old from (message.Allow p) suits.shape.nodes placed) early h
+  here_hears old mid stamp from sent (message.Deny p need free) acted suits placed early space few h = deny_hears policy plan old mid stamp from sent p need free acted suits (near_from old from (message.Deny p need free) suits.shape.nodes placed) early h
+  here_hears old mid stamp from sent (message.Move p u hops line) acted suits placed early space few h = move_hears policy plan old mid stamp from sent p u hops line acted suits (near_from old from (message.Move p u hops line) suits.shape.nodes placed) early (below_of hops hops_end few) h
+  here_hears old mid stamp from sent (message.Landed p source hops line) acted suits placed early space few h = landed_hears policy plan old mid stamp from sent p source hops line acted suits (home_of old from (message.Landed p source hops line) placed refl) (near_from old from (message.Landed p source hops line) suits.shape.nodes placed) (near_node old from (message.Landed p source hops line) source suits.shape.nodes refl placed) early h
+  here_hears old mid stamp from sent (message.Half places) acted suits placed early space few (own, s) = Misfits s.what (inl own) s.same
 
-  any_hears : (old mid : Node) (stamp from sent : ℕ) (m : Message) (acted : Acted) → Suits plan old → stamp ≤ stamp_end + (length old.journal.events + 1) → length old.journal.events < old.journal.room
+  any_hears : (old mid : Node) (stamp from sent : ℕ) (m : Message) (acted : Acted) → Suits plan old → stamp ≤ stamp_end + (length old.journal.events + 1) → length old.journal.events < old.journal.room → (ManyHops (machine policy plan) (note_of policy plan m) → ⊥)
       → HearsAny from m acted old mid → Hears policy plan stamp old.id from sent m acted old mid
-  any_hears old mid stamp from sent m acted suits early space h = go (is_misplaced old from m) refl h
+  any_hears old mid stamp from sent m acted suits early space few h = go (is_misplaced old from m) refl h
     where
       go : (b : Bool) → is_misplaced old from m ≡ b → MatchBool b (IsStrange acted old mid) (HearsHere from m acted old mid) → Hears policy plan stamp old.id from sent m acted old mid
       go true e s = Misfits s.what (misplaced_unfit old from m suits.shape.nodes e) s.same
-      go false e x = here_hears old mid stamp from sent m acted suits e early space x
+      go false e x = here_hears old mid stamp from sent m acted suits e early space few x
 
   -- ---- all letters
 
@@ -246,7 +261,7 @@ module _ (policy : Policy) (plan : Plan) where
       let hops = or_second (nat_le old.shape.nodes l.to) (has_many_hops l.message) rest in
       let at : h.stamp ≡ max old.clock l.stamp + 1 = h.stamp_is (low_max old.clock l.stamp (length old.journal.events) old.journal.room suits.within.clock sent h.space few) in
       let early = early_is old.clock l.stamp (length old.journal.events) h.stamp suits.within.clock sent at in
-      go sent (many_hops_is l.message hops) at (any_hears old h.mid h.stamp l.from l.stamp l.message h.acted suits early h.space h.hears)
+      go sent (many_hops_is l.message hops) at (any_hears old h.mid h.stamp l.from l.stamp l.message h.acted suits early h.space (many_hops_is l.message hops) h.hears)
     where
       go : l.stamp < stamp_end → (ManyHops (machine policy plan) (note_of policy plan l.message) → ⊥) → h.stamp ≡ max old.clock l.stamp + 1 → Hears policy plan h.stamp old.id l.from l.stamp l.message h.acted old h.mid → Made policy plan (Some l) old new ⊎ PassedOver policy plan (Some l) old new
       go sent hops at (Fits acts fitting) = inl (recorded_made policy plan old h.mid new h.stamp (Some l) h.acted suits acts at usual h.settled)

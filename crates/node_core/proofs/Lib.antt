@@ -15,9 +15,14 @@ pub mod Contexts
 pub mod Replies
 pub mod Moving
 pub mod Missing
+pub mod Using
+pub mod Leaving
+pub mod Coming
+pub mod Told
 pub mod Hearing
 pub mod Orders
 pub mod Going
 pub mod Living
 pub mod Doing
+pub mod Deciding
 pub mod Answering

@@ -1,5 +1,5 @@
 -- What a node makes of a message or of a kind of turn, in the words of its parts.
-use Rattle.std.specs.Prelude.{◌≡◌, ◌+◌, ◌-◌, ◌^◌, ℕ, max, min, is_some, slice_get, nat_lt, nat_le, ◌&&◌, ◌||◌, ◌==◌, not, ◌⊎◌, Bool, true, false, Option, Some, None, List, [], ◌∷◌, ◌++◌, length, MatchOption}
+use Rattle.std.specs.Prelude.{◌≡◌, ◌≢◌, ◌<◌, ◌+◌, ◌-◌, ◌^◌, ℕ, max, min, is_some, slice_get, nat_lt, nat_le, ◌&&◌, ◌||◌, ◌==◌, not, ◌⊎◌, Bool, true, false, Option, Some, None, List, [], ◌∷◌, ◌++◌, length, MatchOption}
 use Rattle.call_forward.specs.declared.acted.Acted.{Acted}
 use Rattle.call_forward.specs.declared.message.Message.{Message}
 use Rattle.call_forward.specs.declared.message.Message.TheVariants as message
@@ -35,35 +35,14 @@ use Rattle.node_core.specs.declared.lines.Task.{Task}
 use Rattle.node_core.specs.declared.lines.Task.TheVariants as task
 use Rattle.node_core.specs.declared.talk.Talk.{Talk}
 use Rattle.node_core.specs.declared.node.Node.{Node}
-
--- home's part changes alone
-pub record OnHome (turned : Turned) (acted : Acted) (old mid : Node) : Type 0 where
-  pub is : turned ≡ record { home = mid.deputies; acted = acted }
-  pub rest : mid ≡ record old { deputies = mid.deputies }
-
--- the contexts change alone
-pub record OnHosted (Does : List code_context.Context → List code_context.Context → Type 0) (old mid : Node) : Type 0 where
-  pub does : Does old.hosted mid.hosted
-  pub rest : mid ≡ record old { hosted = mid.hosted }
+pub use Rattle.node_core.specs.Parts.{OnHome, OnHosted, IsStrange, is_stray_pid, is_stray, Says}
+use Rattle.node_core.specs.Moves.{HearsAsk, HearsAllow, HearsDeny, HearsMove, HearsLanded}
 
 -- ---- messages
 
 -- a message comes from a node that the cluster does not have, or names one, or would have to go to home
 abbrev pub is_misplaced : Node → ℕ → Message → Bool
 is_misplaced n from m = not (are_below n.shape.nodes (from ∷ nodes_of m)) || (not (n.id == 0) && is_to_home m)
-
--- what does not fit changes nothing
-pub record IsStrange (acted : Acted) (old mid : Node) : Type 0 where
-  pub what : acted.what ≡ what.Strange
-  pub same : mid ≡ old
-
--- at home a reply brings a child whose pid was never given
-abbrev pub is_stray_pid : KernelState → Option ℕ → Bool
-is_stray_pid k None = false
-is_stray_pid k (Some child) = not (nat_le 1 child && nat_le child (given k))
-
-abbrev pub is_stray : Node → Option ℕ → Bool
-is_stray n child = (n.id == 0) && is_stray_pid n.deputies.kernel child
 
 abbrev pub HearsReply : ℕ → Done → Acted → Node → Node → Type 0
 HearsReply pid done acted old mid = MatchBool (is_stray old (child_in done.answer)) (IsStrange acted old mid) (OnHosted (Gets acted pid done) old mid)
@@ -81,11 +60,6 @@ pub record KeepsMove (pid to line : ℕ) (acted : Acted) (old mid : Node) : Type
   pub changes : Changes pid (keeping to line) old.hosted mid.hosted
   pub acted_is : acted ≡ record { what = what.Keep pid to line; mail = [] }
   pub rest : mid ≡ record old { hosted = mid.hosted }
-
--- nothing changes
-pub record Says (said : Acted) (acted : Acted) (old mid : Node) : Type 0 where
-  pub acted_is : acted ≡ said
-  pub same : mid ≡ old
 
 abbrev pub refused : ℕ → ℕ → Refusal → ℕ → Acted
 refused pid to why line = record { what = what.Refused pid to why line; mail = (0, message.NoMove line) ∷ [] }
@@ -113,26 +87,27 @@ HearsHere from (message.Poke pid) acted old mid = OnHosted (PokedOn acted pid) o
 HearsHere from (message.Go pid to hops line) acted old mid = GoActs (answer_at old pid to) pid to hops line acted old mid
 HearsHere from (message.NotHere pid to hops line) acted old mid = OnHome (missed_in old.deputies pid to hops line) acted old mid
 HearsHere from (message.NoMove line) acted old mid = Says (closed_acted line) acted old mid
-HearsHere from _ acted old mid = ⊥
+HearsHere from (message.Ask pid need) acted old mid = HearsAsk from pid need acted old mid
+HearsHere from (message.Allow pid) acted old mid = HearsAllow from pid acted old mid
+HearsHere from (message.Deny pid need free) acted old mid = HearsDeny from pid need free acted old mid
+HearsHere from (message.Move pid user hops line) acted old mid = HearsMove from pid user hops line acted old mid
+HearsHere from (message.Landed pid source hops line) acted old mid = HearsLanded from pid source hops line acted old mid
+HearsHere from (message.Half places) acted old mid = (from ≡ old.id) × IsStrange acted old mid
 
--- what a node does not hear yet: the letters of a move, and halves of vectors
-abbrev pub IsUnbuilt : Message → Type 0
-IsUnbuilt (message.Ask pid need) = Unit {0}
-IsUnbuilt (message.Allow pid) = Unit {0}
-IsUnbuilt (message.Deny pid need free) = Unit {0}
-IsUnbuilt (message.Move pid user hops line) = Unit {0}
-IsUnbuilt (message.Landed pid source hops line) = Unit {0}
-IsUnbuilt (message.Half places) = Unit {0}
-IsUnbuilt _ = ⊥
+-- what a node does not hear yet: halves of vectors that come from another node
+abbrev pub IsUnbuilt : ℕ → ℕ → Message → Type 0
+IsUnbuilt id from (message.Half places) = from ≢ id
+IsUnbuilt id from _ = ⊥
 
 -- then nothing changes
-pub record IsLeft (m : Message) (old mid : Node) : Type 0 where
-  pub unbuilt : IsUnbuilt m
+pub record IsLeft (from : ℕ) (m : Message) (old mid : Node) : Type 0 where
+  pub unbuilt : IsUnbuilt old.id from m
+  pub near : from < old.shape.nodes
   pub same : mid ≡ old
 
 -- None: that kind of message is not built yet
 abbrev pub HearsSome : ℕ → Message → Option Acted → Node → Node → Type 0
-HearsSome from m None old mid = IsLeft m old mid
+HearsSome from m None old mid = IsUnbuilt old.id from m × (mid ≡ old)
 HearsSome from m (Some acted) old mid = HearsHere from m acted old mid
 
 -- ---- a call that was held

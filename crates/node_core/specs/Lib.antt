@@ -4,5 +4,7 @@ pub mod Suits
 pub mod Rotation
 pub mod Making
 pub mod Turns
+pub mod Parts
+pub mod Moves
 pub mod Kinds
 pub mod Turning

@@ -36,7 +36,7 @@ HearsAny from m acted old mid = MatchBool (is_misplaced old from m) (IsStrange a
 
 -- None: that kind of message is not built yet
 abbrev pub HearsAnySome : ℕ → Message → Option Acted → Node → Node → Type 0
-HearsAnySome from m None old mid = IsLeft m old mid
+HearsAnySome from m None old mid = IsLeft from m old mid
 HearsAnySome from m (Some acted) old mid = HearsAny from m acted old mid
 
 -- the node made something of it
@@ -57,7 +57,7 @@ pub record Passed (letter : Letter) (old new : Node) : Type 0 where
 
 abbrev pub TookLetter : Turned → Letter → Node → Node → Type 0
 TookLetter Did letter old new = Heard letter old new ⊎ Passed letter old new
-TookLetter NotBuilt letter old new = IsLeft letter.message old new
+TookLetter NotBuilt letter old new = IsLeft letter.from letter.message old new
 TookLetter _ letter old new = ⊥
 
 -- ---- no letter

@@ -75,7 +75,7 @@ module _ (policy : Policy) (plan : Plan) where
   Answers Idle inbox old new = Rested inbox old new
   Answers Finished inbox old new = HasFinished inbox old new
   Answers JournalFull inbox old new = IsFull inbox old new
-  Answers NotBuilt inbox old new = MatchOption inbox (Unit {0}) (λ l. IsLeft l.message old new)
+  Answers NotBuilt inbox old new = MatchOption inbox (Unit {0}) (λ l. IsLeft l.from l.message old new)
 
 -- whatever cluster the node is one of
 abbrev pub TurnsAs : Policy → Turned → Option Letter → Node → Node → Type 0

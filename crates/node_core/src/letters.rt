@@ -65,8 +65,8 @@ impl Node {
         acted
     }
 
-    /// Whether a reply brings a child of which home knows nothing.
-    fn is_stray(&self, child: Option<u32>) -> bool
+    /// Whether a pid, if there is one, is at home one that was never given.
+    pub(crate) fn is_stray(&self, child: Option<u32>) -> bool
         ensures { result ≡ is_stray self.now child }
     {
         if self.id != 0 {
@@ -138,7 +138,42 @@ impl Node {
                 let acted = self.close(alloc, line);
                 Ok(Some(acted))
             }
-            _ => Ok(None),
+            Message::Ask { pid, need } => {
+                let acted = self.asked(alloc, from, pid, need)?;
+                Ok(Some(acted))
+            }
+            Message::Allow { pid } => {
+                let acted = self.allowed(alloc, from, pid)?;
+                Ok(Some(acted))
+            }
+            Message::Deny { pid, need, free } => {
+                let acted = self.denied(alloc, from, pid, need, free)?;
+                Ok(Some(acted))
+            }
+            Message::Move {
+                pid,
+                user,
+                hops,
+                line,
+            } => {
+                let acted = self.came(alloc, from, pid, user, hops, line)?;
+                Ok(Some(acted))
+            }
+            Message::Landed {
+                pid,
+                source,
+                hops,
+                line,
+            } => {
+                let acted = self.landed(alloc, from, pid, source, hops, line)?;
+                Ok(Some(acted))
+            }
+            Message::Half { .. } => {
+                if from == self.id {
+                    return Ok(Some(strange(alloc)));
+                }
+                Ok(None)
+            }
         }
     }
 }

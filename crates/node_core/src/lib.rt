@@ -1,8 +1,10 @@
 // A node of the cluster: what one turn of it does.
 #![tactic(auto)]
 
+mod asking;
 mod course;
 mod kinds;
+mod landing;
 mod letters;
 mod lines;
 mod moves;
@@ -11,6 +13,8 @@ mod outbox;
 mod rotation;
 mod shape;
 mod talk;
+#[cfg(test)]
+mod tests;
 mod turn;
 
 pub use node::Node;

@@ -29,8 +29,8 @@ pub enum Turned {
     Finished,
     /// More was due, and the journal is full.
     JournalFull,
-    /// What came or was due is not built yet: the letters of a move between nodes, halves of vectors, and, in a cluster of more than one node or with a full
-    /// journal where a held call can go on, a turn without a letter.
+    /// What came or was due is not built yet: halves of vectors from another node, and, in a cluster of more than one node or with a full journal where a
+    /// held call can go on, a turn without a letter.
     NotBuilt,
 }
 
