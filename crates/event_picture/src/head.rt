@@ -19,8 +19,8 @@ text{font:12px sans-serif;fill:#222}\
 .home{stroke:#555;stroke-width:2}\
 .axis{stroke:#888;fill:none}\
 .b{stroke-width:16}\
-.q{stroke:#777;stroke-opacity:.7;fill:none;marker-end:url(#grey)}\
-.a{stroke:#aaa;fill:none;stroke-dasharray:3 2;marker-end:url(#grey)}\
+.q{fill:none;marker-end:url(#grey)}\
+.a{fill:none;stroke-dasharray:3 2;marker-end:url(#grey)}\
 .m{stroke-width:3;fill:none;marker-end:url(#black)}\
 .s{fill:#fff;stroke:#c00;stroke-width:2}\
 .r{fill:none;stroke:#c00;stroke-width:2}\

@@ -26,19 +26,25 @@ impl fmt::Display for Bar {
     }
 }
 
-/// The line of an arrow; its class gives it its point.
+/// The letter of the class that gives an arrow its look.
+fn class_of(trip: Trip) -> char {
+    match trip {
+        Trip::Call => 'q',
+        Trip::Answer => 'a',
+        Trip::Move => 'm',
+    }
+}
+
+/// The line of an arrow, without its end.
 impl fmt::Display for Arrow {
     fn fmt<W: fmt::Write>(&self, f: &mut fmt::Formatter<W>) -> fmt::Result {
+        let class = class_of(self.trip);
         let colour = colour_of(self.pid);
-        match self.trip {
-            Trip::Call => write!(f, "<path class=\"q\" d=\"M{}L{}\"", self.from, self.to),
-            Trip::Answer => write!(f, "<path class=\"a\" d=\"M{}L{}\"", self.from, self.to),
-            Trip::Move => write!(
-                f,
-                "<path class=\"m c{colour}\" d=\"M{}L{}\"",
-                self.from, self.to
-            ),
-        }
+        write!(
+            f,
+            "<path class=\"{class} c{colour}\" d=\"M{}L{}\"",
+            self.from, self.to
+        )
     }
 }
 

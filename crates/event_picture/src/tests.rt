@@ -31,7 +31,7 @@ const FAULTY: [(&[u8], u32); 16] = [
 const DRAWN: [(&[u8], [usize; 3]); 5] = [
     (b"terminal 0\n\ndone\nevents 0\n", [0, 1, 0]),
     (
-        b"terminal 9\nevents 1\n\n\nfile f 4\na\nb\n\ndone\nevents 1\n1 0 steps 1 5\n",
+        b"terminal 9\nevents 1\n\nfile f 4\na\nb\n\ndone\nevents 1\n1 0 steps 1 5\n",
         [0, 1, 0],
     ),
     (
