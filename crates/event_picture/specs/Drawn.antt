@@ -1,5 +1,5 @@
 -- What a picture writes.
-use Rattle.std.specs.Prelude.{◌≡◌, ℕ, List, ◌++◌, codes, Option, Result, Ok, Err}
+use Rattle.std.specs.Prelude.{◌≡◌, ℕ, Bool, true, false, List, ◌++◌, codes, Option, Result, Ok, Err}
 use Rattle.std.specs.Fmt.{decimal}
 use Rattle.shell_text.specs.Printing.{Prints, AreWritten}
 use Rattle.shell_text.specs.Report.{chunks_of}
@@ -23,6 +23,11 @@ status_of (BadReport line) = 3
 status_of ReadFault = 5
 status_of WriteFault = 6
 status_of NoMemory = 7
+
+-- whether the report was read
+abbrev pub was_read : Ended → Bool
+was_read ReadFault = false
+was_read _ = true
 
 abbrev pub ended_by : PrintFault → Ended
 ended_by fault.Failed = WriteFault

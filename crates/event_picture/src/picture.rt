@@ -1,7 +1,7 @@
 // The top call: from a report to its picture.
-ghost use Rattle.std.specs.Prelude.{◌≡◌, ◌≤◌, IfOk, IfErr, OnErr, string_bytes};
+ghost use Rattle.std.specs.Prelude.{◌≡◌, ◌≤◌, true, false, IfOk, IfErr, OnErr, string_bytes};
 ghost use Rattle.outside.specs.Outside.{Rose};
-ghost use Rattle.event_picture.specs.Drawn.{Draws, Ends, bad_report, ended_by, status_of};
+ghost use Rattle.event_picture.specs.Drawn.{Draws, Ends, bad_report, ended_by, status_of, was_read};
 
 use crate::drawing::Drawing;
 use crate::ended::Ended;
@@ -133,7 +133,8 @@ fn draw_listing<O: Sink>(alloc: Global, listing: &Listing, out: &mut O) -> Resul
 }
 
 fn ended_by(fault: PrintFault) -> Ended
-    ensures { result ≡ ended_by fault }
+    ensures is { result ≡ ended_by fault }
+    ensures read { was_read result ≡ true }
 {
     match fault {
         PrintFault::Failed => Ended::WriteFault,
@@ -151,7 +152,8 @@ fn bad_report(alloc: Global, line: u32) -> Result<Bytes, NoMemory>
 
 /// Writes the line in place of a picture.
 fn refuse<O: Sink>(alloc: Global, line: u32, out: &mut O) -> Ended
-    ensures { Ends O.written O.faults out.old out.new result }
+    ensures ends { Ends O.written O.faults out.old out.new result }
+    ensures read { was_read result ≡ true }
 {
     let text = match bad_report(alloc, line) {
         Ok(text) => text,
@@ -165,7 +167,8 @@ fn refuse<O: Sink>(alloc: Global, line: u32, out: &mut O) -> Ended
 
 /// Draws the picture of a listing to its end.
 fn draw_whole<O: Sink>(alloc: Global, listing: &Listing, out: &mut O) -> Ended
-    ensures { Ends O.written O.faults out.old out.new result }
+    ensures ends { Ends O.written O.faults out.old out.new result }
+    ensures read { was_read result ≡ true }
 {
     match draw_listing(alloc, listing, out) {
         Ok(()) => Ended::Done,
@@ -175,7 +178,8 @@ fn draw_whole<O: Sink>(alloc: Global, listing: &Listing, out: &mut O) -> Ended
 
 /// Draws the picture of a report's text, or refuses it.
 fn draw_text<O: Sink>(alloc: Global, text: &[u8], out: &mut O) -> Ended
-    ensures { Ends O.written O.faults out.old out.new result }
+    ensures ends { Ends O.written O.faults out.old out.new result }
+    ensures read { was_read result ≡ true }
 {
     match read_report(alloc, text) {
         Ok(listing) => draw_whole(alloc, &listing, out),
@@ -188,7 +192,7 @@ fn draw_text<O: Sink>(alloc: Global, text: &[u8], out: &mut O) -> Ended
 pub fn draw_report<S: Source, O: Sink>(alloc: Global, source: &mut S, out: &mut O) -> Ended
     // What was written, and that no write failed unless the answer says so.
     ensures drawn { Ends O.written O.faults out.old out.new result }
-    ensures read { result ≡ Ended.ReadFault → Rose (S.faults source.old) (S.faults source.new) }
+    ensures read { was_read result ≡ false → Rose (S.faults source.old) (S.faults source.new) }
 {
     match read_all(alloc, source) {
         Ok(text) => draw_text(alloc, text.as_slice(), out),
