@@ -91,9 +91,9 @@ fn marks_of_events(rt: HostRuntime) -> Result<(), Fail> {
         assert_eq!(rt; ended, Ended::Done);
         let text = sink.bytes();
         // One arrow of a move stands in the legend.
-        assert_eq!(rt; times(text, b"<path class=\"m "), moves + 1);
+        assert_eq!(rt; times(text, b"<path class=\"m "), moves.saturating_add(1));
         assert_eq!(rt; times(text, b"<rect class=\"lane\""), lanes);
-        assert_eq!(rt; times(text, b"<title>"), moves + signs);
+        assert_eq!(rt; times(text, b"<title>"), moves.saturating_add(signs));
     }
     Ok(())
 }
