@@ -1,6 +1,8 @@
 -- What a turn answers.
-use Rattle.std.proofs.Common.{◌≡◌, ◌⊎◌, inl, inr, Some, None, length, refl, sym, ap, ◌∙◌}
+use Rattle.std.proofs.Common.{◌≡◌, ◌≤◌, ◌<◌, ◌⊎◌, inl, inr, ℕ, Some, None, length, refl, sym, ap, ◌∙◌, arith}
 use Rattle.call_forward.specs.declared.letter.Letter.{Letter}
+use Rattle.call_forward.specs.declared.message.Message.{Message}
+use Rattle.call_forward.specs.declared.message.Message.TheVariants as message
 use Rattle.protocol.specs.Rests.{IsIdle, IsFinished, Finished as LawFinished}
 use Rattle.node_machine.specs.Plan.{Plan}
 use Rattle.node_machine.specs.Machine.{Policy, machine}
@@ -9,12 +11,21 @@ use Rattle.node_core.specs.declared.turn.Turned.{Turned}
 use Rattle.node_core.specs.declared.turn.Turned.TheVariants.{Did, Idle, Finished, JournalFull, NotBuilt}
 use Rattle.node_core.specs.Locals.{local}
 use Rattle.node_core.specs.Suits.{Suits}
+use Rattle.node_core.specs.Kinds.{IsLeft}
 use Rattle.node_core.specs.Turns.{Answers}
 use Rattle.node_core.specs.Turning.{TookLetter, WentOn, Heard, Passed, IsDone, Picks}
 use Rattle.node_core.proofs.Hearing.{heard_turn, passed_turn}
 use Rattle.node_core.proofs.Going.{went_turn, none_rests, some_applies}
 
+none_left : (from : ℕ) (m : Message) (old mid : Node) → old.shape.nodes ≤ 1 → old.id < old.shape.nodes → IsLeft from m old mid → ⊥
+none_left from (message.Half places) old mid one below left = let near = left.near in left.unbuilt (omega (arith, one, below, near))
+none_left from _ old mid one below left = absurd left.unbuilt
+
 module _ (policy : Policy) (plan : Plan) where
+  -- a cluster of one node leaves no letter
+  pub all_heard : (old new : Node) (l : Letter) → Suits plan old → old.shape.nodes ≤ 1 → Answers policy plan NotBuilt (Some l) old new → ⊥
+  all_heard old new l suits one left = none_left l.from l.message old new one (let below = suits.below in let nodes = suits.shape.nodes in omega (arith, below, nodes)) left
+
   took : (old new : Node) (l : Letter) → Suits plan old → Heard l old new ⊎ Passed l old new → Answers policy plan Did (Some l) old new
   took old new l suits (inl h) = heard_turn policy plan old new l suits h
   took old new l suits (inr p) = inr (passed_turn policy plan old new l suits p)

@@ -18,7 +18,7 @@ use Rattle.remote_ctx.specs.declared.context.Context as code_context
 use Rattle.remote_ctx.specs.declared.quantum.Ran.{Ran}
 use Rattle.remote_ctx.specs.declared.quantum.Ran.TheVariants as ran
 use Rattle.remote_ctx.specs.Hosted.{lookup, pages_of, Changes, Puts}
-use Rattle.remote_ctx.specs.Acting.{RunsAs, StepsOn, asking, fresh, child_in, poked_as, Heeds, Sends, Gets}
+use Rattle.remote_ctx.specs.Acting.{RunsAs, StepsOn, asking, fresh, child_in, poked_as, Heeds, Sends, Gets, Leaves}
 use Rattle.deputy.specs.Rows.{HomeState}
 use Rattle.deputy.specs.Moves.{LaunchesAt}
 use Rattle.node_core.specs.declared.course.Course.{Course}
@@ -36,7 +36,7 @@ use Rattle.node_core.specs.Kinds as kinds
 use Rattle.migrate_proto.specs.declared.reserve.Decision.{Decision}
 use Rattle.migrate_proto.specs.declared.reserve.Decision.TheVariants as decided
 use Rattle.migrate_proto.specs.Reservations.{decision}
-use Rattle.node_core.specs.Moves.{may_come, free_at, AnswersAsk, Decides, asked_of, AllowedFor, DeniedFor, may_land, landings, LandsHere}
+use Rattle.node_core.specs.Moves.{may_come, free_at, AnswersAsk, Decides, asked_of, AllowedFor, DeniedFor, Departs, may_land, landings, LandsHere}
 use Rattle.node_core.specs.Turning.{is_odd, IsStamp, HearsAny, Heard, Passed, Went}
 
 -- ---- a move begins
@@ -53,6 +53,12 @@ begun pid to line old h mail need found changes found_is need_is mail_is =
       acted_is = ap (begin_acted pid to line) (mail_is ∙ ap (λ (n : ℕ). (to, message.Ask pid n) ∷ []) at);
       rest = refl;
     }
+
+-- ---- a process leaves
+
+pub departed : (pid to : ℕ) (line : Option ℕ) (user : UserState) (hops : ℕ) (old : Node) (h : List code_context.Context) (mail : List (ℕ × Message)) → Leaves user hops pid old.hosted h → mail ≡ (to, message.Move pid user hops line) ∷ []
+    → Departs pid to line (record { what = what.Depart pid to; mail = mail }) old (record old { hosted = h })
+departed pid to line user hops old h mail leaves mail_is = record { user = user; hops = hops; leaves = leaves; acted_is = ap (λ (m : List (ℕ × Message)). record { what = what.Depart pid to; mail = m }) mail_is; rest = refl }
 
 -- ---- a quantum of steps
 

@@ -24,5 +24,4 @@ pub mod Orders
 pub mod Going
 pub mod Living
 pub mod Doing
-pub mod Deciding
 pub mod Answering
