@@ -65,7 +65,7 @@ module _ (policy : Policy) (plan : Plan) where
   go_post old from sent p to hops line = letter (machine policy plan) from old.id sent (Go p to hops line)
 
   -- how a context stands, as the laws have it
-  stood : (h : List code_context.Context) (p : ℕ) (c : code_context.Context) (s : Stance) → lookup p h ≡ Some c → c.state ≡ s → option_map (context_of policy plan) (lookup p h) ≡ Some (context (machine policy plan) (body_of policy plan c) (state_of s))
+  pub stood : (h : List code_context.Context) (p : ℕ) (c : code_context.Context) (s : Stance) → lookup p h ≡ Some c → c.state ≡ s → option_map (context_of policy plan) (lookup p h) ≡ Some (context (machine policy plan) (body_of policy plan c) (state_of s))
   stood h p c s here e = ap (option_map (context_of policy plan)) here ∙ ap (λ x. Some (context (machine policy plan) (body_of policy plan c) (state_of x))) e
 
   begun_acts : (old mid : Node) (stamp from sent p to hops line : ℕ) (acted : Acted) → Suits plan old → stamp ≤ stamp_end + (length old.journal.events + 1) → (c : code_context.Context) → lookup p old.hosted ≡ Some c → c.state ≡ stance.Running → to ≢ old.id → BeginsMove p to line acted old mid

@@ -4,5 +4,9 @@ pub mod Suits
 pub mod Rotation
 pub mod Making
 pub mod Turns
+pub mod Sight
+pub mod Halves
+pub mod Parts
+pub mod Moves
 pub mod Kinds
 pub mod Turning

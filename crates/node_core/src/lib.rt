@@ -1,8 +1,11 @@
 // A node of the cluster: what one turn of it does.
 #![tactic(auto)]
 
+mod asking;
 mod course;
+mod halves;
 mod kinds;
+mod landing;
 mod letters;
 mod lines;
 mod moves;
@@ -10,7 +13,10 @@ mod node;
 mod outbox;
 mod rotation;
 mod shape;
+mod sight;
 mod talk;
+#[cfg(test)]
+mod tests;
 mod turn;
 
 pub use node::Node;
