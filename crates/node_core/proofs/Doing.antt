@@ -1,6 +1,6 @@
 -- What functions of a node did, put together from what the functions that they call did.
-use Rattle.std.proofs.Common.{◌≡◌, ◌⊎◌, inl, inr, ℕ, ◌<◌, ◌≤◌, Bool, true, false, Option, Some, None, List, [], ◌∷◌, ◌++◌, length, refl, sym, ap, ◌∙◌, subst}
-use Rattle.std.specs.Prelude.{max, unwrap_or}
+use Rattle.std.proofs.Common.{◌≡◌, ◌⊎◌, inl, inr, ℕ, ◌==◌, ◌<◌, ◌≤◌, Bool, true, false, Option, Some, None, List, [], ◌∷◌, ◌++◌, length, take, refl, sym, ap, ◌∙◌, subst}
+use Rattle.std.specs.Prelude.{max, unwrap_or, is_some, slice_get}
 use Rattle.std.specs.Bool.{MatchBool}
 use Rattle.std.specs.Option.{option_map}
 use Rattle.call_forward.specs.declared.acted.Acted.{Acted}
@@ -18,12 +18,17 @@ use Rattle.remote_ctx.specs.declared.context.Context as code_context
 use Rattle.remote_ctx.specs.declared.quantum.Ran.{Ran}
 use Rattle.remote_ctx.specs.declared.quantum.Ran.TheVariants as ran
 use Rattle.remote_ctx.specs.Hosted.{lookup, pages_of, Changes, Puts}
-use Rattle.remote_ctx.specs.Acting.{RunsAs, StepsOn, asking, fresh, child_in, poked_as, Heeds, Sends, Gets, Leaves}
+use Rattle.remote_ctx.specs.Acting.{RunsAs, StepsOn, asking, fresh, child_in, poked_as, Heeds, Sends, Gets}
 use Rattle.deputy.specs.Rows.{HomeState}
+use Rattle.deputy.specs.Calls.{Retried, next_ready, retried_in, retry_by}
 use Rattle.deputy.specs.Moves.{LaunchesAt}
 use Rattle.node_core.specs.declared.course.Course.{Course}
 use Rattle.node_core.specs.declared.lines.Task.{Task}
 use Rattle.node_core.specs.declared.lines.Task.TheVariants as task
+use Rattle.mem_usher.specs.declared.sight.Choice.{Choice}
+use Rattle.call_table.specs.declared.process.Entry.{Entry}
+use Rattle.node_core.specs.declared.talk.Talk.{Talk}
+use Rattle.node_core.specs.declared.turn.Turned.TheVariants as turned
 use Rattle.node_core.specs.declared.node.Node.{Node}
 use Rattle.node_core.specs.declared.rotation.Kind.{Kind}
 use Rattle.node_core.specs.declared.rotation.Kind.TheVariants as kind
@@ -31,13 +36,17 @@ use Rattle.node_core.specs.declared.rotation.Ready.{Ready}
 use Rattle.node_core.specs.declared.rotation.Rotation.{Rotation}
 use Rattle.node_core.specs.Rotation.{picked, rotated}
 use Rattle.node_core.specs.Turns.{settled_in}
-use Rattle.node_core.specs.Kinds.{BeginsMove, IsReady, IsStrange, OnHosted, HearsHere, HearsReply, GoActs, answer_at, is_misplaced, is_stray, stepped, ContextActs, RunsContext, TaskActs, LineActs, CarriesOut, Launches, advanced}
+use Rattle.node_core.specs.Kinds.{BeginsMove, IsReady, IsStrange, OnHosted, HearsHere, HearsReply, GoActs, answer_at, is_misplaced, is_stray, stepped, ContextActs, RunsContext, TaskActs, LineActs, RetriesSome, RunsSome, TasksSome, task_at, CarriesOut, CarriesSome, Launches, advanced}
 use Rattle.node_core.specs.Kinds as kinds
+use Rattle.node_core.specs.Sight.{Answerer, AreCounted, own_entry}
+use Rattle.node_core.specs.Halves.{BeginsChosen, ActsOnChoice, Follows, SendsHalf, HearsHalf, target_of, chance_after, told_talk, heard_talk, told_half, told_heard}
+use Rattle.load_gossip.specs.Vectors.{renewed}
+use Rattle.node_event.specs.declared.event.What.{What}
 use Rattle.migrate_proto.specs.declared.reserve.Decision.{Decision}
 use Rattle.migrate_proto.specs.declared.reserve.Decision.TheVariants as decided
 use Rattle.migrate_proto.specs.Reservations.{decision}
-use Rattle.node_core.specs.Moves.{may_come, free_at, AnswersAsk, Decides, asked_of, AllowedFor, DeniedFor, Departs, may_land, landings, LandsHere}
-use Rattle.node_core.specs.Turning.{is_odd, IsStamp, HearsAny, Heard, Passed, Went}
+use Rattle.node_core.specs.Moves.{may_come, free_at, AnswersAsk, Decides, asked_of, AllowedFor, DeniedFor, may_land, landings, LandsHere}
+use Rattle.node_core.specs.Turning.{is_odd, IsStamp, HearsAny, Heard, Passed, Lacks, Went, WentOn}
 
 -- ---- a move begins
 
@@ -53,12 +62,6 @@ begun pid to line old h mail need found changes found_is need_is mail_is =
       acted_is = ap (begin_acted pid to line) (mail_is ∙ ap (λ (n : ℕ). (to, message.Ask pid n) ∷ []) at);
       rest = refl;
     }
-
--- ---- a process leaves
-
-pub departed : (pid to : ℕ) (line : Option ℕ) (user : UserState) (hops : ℕ) (old : Node) (h : List code_context.Context) (mail : List (ℕ × Message)) → Leaves user hops pid old.hosted h → mail ≡ (to, message.Move pid user hops line) ∷ []
-    → Departs pid to line (record { what = what.Depart pid to; mail = mail }) old (record old { hosted = h })
-departed pid to line user hops old h mail leaves mail_is = record { user = user; hops = hops; leaves = leaves; acted_is = ap (λ (m : List (ℕ × Message)). record { what = what.Depart pid to; mail = m }) mail_is; rest = refl }
 
 -- ---- a quantum of steps
 
@@ -93,6 +96,18 @@ launched_is line pid user users found old d h course pushed mail each launches f
   course = course_is ∙ ap (λ (ps : List ℕ). advanced line (record old.course { users = users; launched = ps })) pushed_is;
   rest = refl;
 }
+
+-- ---- no held call goes on
+
+abbrev nothing_retried : HomeState → Retried
+nothing_retried home = record { home = home; acted = None }
+
+pub none_retried : (d new : HomeState) (o : Option Acted) → o ≡ None → is_some o ≡ is_some (next_ready d) → retried_in d ≡ record { home = new; acted = o } → (next_ready d ≡ None) × (new ≡ d)
+none_retried d new o none some is = go (next_ready d) refl (sym (ap is_some none) ∙ some)
+  where
+    go : (n : Option ℕ) → next_ready d ≡ n → false ≡ is_some n → (next_ready d ≡ None) × (new ≡ d)
+    go None e f = (e, ap (λ (r : Retried). r.home) (sym is ∙ ap (λ (n : Option ℕ). retry_by n d) e))
+    go (Some p) e f = absurd cc
 
 -- ---- what a node keeps as it hears a message or carries out a kind of turn: its journal and its rotation
 
@@ -140,27 +155,38 @@ move_keeps : (b : Bool) (from pid : ℕ) (user : UserState) (hops : ℕ) (line :
 move_keeps true from pid user hops line acted old mid l = record { journal = ap (λ (n : Node). n.journal) l.rest; rotation = ap (λ (n : Node). n.rotation) l.rest }
 move_keeps false from pid user hops line acted old mid s = same_keeps old mid s.same
 
-here_keeps : (from : ℕ) (m : Message) (acted : Acted) (old mid : Node) → HearsHere from m acted old mid → Keeps old mid
-here_keeps from (message.Call p r) acted old mid h = home_keeps old mid h.1.rest
-here_keeps from (message.Pause p room) acted old mid h = home_keeps old mid h.rest
-here_keeps from (message.Reply p d) acted old mid h = reply_keeps (is_stray old (child_in d.answer)) (Gets acted p d) acted old mid h
-here_keeps from (message.Poke p) acted old mid h = hosted_keeps old mid h.rest
-here_keeps from (message.Go p to hops line) acted old mid h = go_keeps (answer_at old p to) p to hops line acted old mid h
-here_keeps from (message.NotHere p to hops line) acted old mid h = home_keeps old mid h.rest
-here_keeps from (message.NoMove line) acted old mid h = same_keeps old mid h.same
-here_keeps from (message.Ask p need) acted old mid h = ask_keeps (may_come old p) from p need acted old mid h
-here_keeps from (message.Allow p) acted old mid h = allow_keeps (asked_of old from p) from p acted old mid h
-here_keeps from (message.Deny p need free) acted old mid h = deny_keeps (asked_of old from p) from p need free acted old mid h
-here_keeps from (message.Move p u hops line) acted old mid h = move_keeps (may_land old p u) from p u (landings hops) line acted old mid h
-here_keeps from (message.Landed p source hops line) acted old mid h = home_keeps old mid h.home.rest
-here_keeps from (message.Half places) acted old mid h = same_keeps old mid h.1.same
+follows_keeps : (chosen : Option Choice) (first mail : List (ℕ × Message)) (old mid : Node) → Follows chosen first mail old mid → Keeps old mid
+follows_keeps None first mail old mid f = same_keeps old mid f.1
+follows_keeps (Some c) first mail old mid f = hosted_keeps old mid f.rest
 
-any_keeps : (from : ℕ) (m : Message) (acted : Acted) (old mid : Node) → HearsAny from m acted old mid → Keeps old mid
-any_keeps from m acted old mid h = go (is_misplaced old from m) h
+told_keeps : (t : Talk) (old mid : Node) → Keeps (record old { talk = t }) mid → Keeps old mid
+told_keeps t old mid k = record { journal = k.journal; rotation = k.rotation }
+
+here_keeps : (answers : Answerer) (stamp from : ℕ) (m : Message) (acted : Acted) (old mid : Node) → HearsHere answers stamp from m acted old mid → Keeps old mid
+here_keeps answers stamp from (message.Call p r) acted old mid h = home_keeps old mid h.1.rest
+here_keeps answers stamp from (message.Pause p room) acted old mid h = home_keeps old mid h.rest
+here_keeps answers stamp from (message.Reply p d) acted old mid h = reply_keeps (is_stray old (child_in d.answer)) (Gets acted p d) acted old mid h
+here_keeps answers stamp from (message.Poke p) acted old mid h = hosted_keeps old mid h.rest
+here_keeps answers stamp from (message.Go p to hops line) acted old mid h = go_keeps (answer_at old p to) p to hops line acted old mid h
+here_keeps answers stamp from (message.NotHere p to hops line) acted old mid h = home_keeps old mid h.rest
+here_keeps answers stamp from (message.NoMove line) acted old mid h = same_keeps old mid h.same
+here_keeps answers stamp from (message.Ask p need) acted old mid h = ask_keeps (may_come old p) from p need acted old mid h
+here_keeps answers stamp from (message.Allow p) acted old mid h = allow_keeps (asked_of old from p) from p acted old mid h
+here_keeps answers stamp from (message.Deny p need free) acted old mid h = deny_keeps (asked_of old from p) from p need free acted old mid h
+here_keeps answers stamp from (message.Move p u hops line) acted old mid h = move_keeps (may_land old p u) from p u (landings hops) line acted old mid h
+here_keeps answers stamp from (message.Landed p source hops line) acted old mid h = home_keeps old mid h.home.rest
+here_keeps answers stamp from (message.Half places) acted old mid h = go (from == old.id) h
   where
-    go : (b : Bool) → MatchBool b (IsStrange acted old mid) (HearsHere from m acted old mid) → Keeps old mid
+    go : (b : Bool) → MatchBool b (IsStrange acted old mid) (HearsHalf answers stamp from places acted old mid) → Keeps old mid
     go true s = same_keeps old mid s.same
-    go false x = here_keeps from m acted old mid x
+    go false x = told_keeps _ old mid (follows_keeps x.chosen _ _ _ mid x.decides.follows)
+
+any_keeps : (answers : Answerer) (stamp from : ℕ) (m : Message) (acted : Acted) (old mid : Node) → HearsAny answers stamp from m acted old mid → Keeps old mid
+any_keeps answers stamp from m acted old mid h = go (is_misplaced old from m) h
+  where
+    go : (b : Bool) → MatchBool b (IsStrange acted old mid) (HearsHere answers stamp from m acted old mid) → Keeps old mid
+    go true s = same_keeps old mid s.same
+    go false x = here_keeps answers stamp from m acted old mid x
 
 context_keeps : (pid : ℕ) (acted : Acted) (old mid : Node) → ContextActs pid acted old mid → Keeps old mid
 context_keeps pid acted old mid c = go (poked_as (lookup pid old.hosted)) c
@@ -192,20 +218,26 @@ task_keeps : (next : Option (ℕ × Task)) (acted : Acted) (old mid : Node) → 
 task_keeps None acted old mid t = absurd t
 task_keeps (Some next) acted old mid t = line_keeps next.0 next.1 acted old mid t
 
-carries_keeps : (k : Kind) (context : Option ℕ) (acted : Acted) (old mid : Node) → CarriesOut k context acted old mid → Keeps old mid
-carries_keeps kind.Retry context acted old mid c = home_keeps old mid c.rest
-carries_keeps kind.Context context acted old mid c = runs_keeps context acted old mid c
-carries_keeps kind.Line context acted old mid c = task_keeps _ acted old mid c
-carries_keeps kind.Half context acted old mid c = absurd c
+carries_keeps : (answers : Answerer) (stamp : ℕ) (k : Kind) (context : Option ℕ) (acted : Acted) (old mid : Node) → CarriesOut answers stamp k context acted old mid → Keeps old mid
+carries_keeps answers stamp kind.Retry context acted old mid c = home_keeps old mid c.rest
+carries_keeps answers stamp kind.Context context acted old mid c = runs_keeps context acted old mid c
+carries_keeps answers stamp kind.Line context acted old mid c = task_keeps _ acted old mid c
+carries_keeps answers stamp kind.Half context acted old mid c = told_keeps _ old mid (follows_keeps c.chosen _ _ _ mid c.decides.follows)
 
 -- ---- a letter was heard
 
-pub heard_room : (from : ℕ) (m : Message) (acted : Acted) (old mid : Node) → HearsAny from m acted old mid → length old.journal.events < old.journal.room → length mid.journal.events < mid.journal.room
-heard_room from m acted old mid h room = let k = any_keeps from m acted old mid h in subst (λ (j : JournalState). length j.events < j.room) (sym k.journal) room
+pub misplaced_any : (answers : Answerer) (stamp from : ℕ) (m : Message) (acted : Acted) (old mid : Node) → is_misplaced old from m ≡ true → IsStrange acted old mid → HearsAny answers stamp from m acted old mid
+misplaced_any answers stamp from m acted old mid e s = subst (λ (b : Bool). MatchBool b (IsStrange acted old mid) (HearsHere answers stamp from m acted old mid)) (sym e) s
 
-pub heard_took : (l : Letter) (old mid new : Node) (stamp : ℕ) (acted : Acted) → is_odd old l ≡ false → length old.journal.events < old.journal.room → IsStamp old.clock l.stamp stamp → HearsAny l.from l.message acted old mid
-    → new ≡ settled_in stamp acted mid → Heard l old new ⊎ Passed l old new
-heard_took l old mid new stamp acted usual space stamp_is hears settled = inl (record { usual = usual; space = space; stamp = stamp; stamp_is = stamp_is; acted = acted; mid = mid; hears = hears; settled = settled })
+pub heard_any : (answers : Answerer) (stamp from : ℕ) (m : Message) (acted : Acted) (old mid : Node) → is_misplaced old from m ≡ false → HearsHere answers stamp from m acted old mid → HearsAny answers stamp from m acted old mid
+heard_any answers stamp from m acted old mid e h = subst (λ (b : Bool). MatchBool b (IsStrange acted old mid) (HearsHere answers stamp from m acted old mid)) (sym e) h
+
+pub heard_room : (answers : Answerer) (stamp from : ℕ) (m : Message) (acted : Acted) (old mid : Node) → HearsAny answers stamp from m acted old mid → length old.journal.events < old.journal.room → length mid.journal.events < mid.journal.room
+heard_room answers stamp from m acted old mid h room = let k = any_keeps answers stamp from m acted old mid h in subst (λ (j : JournalState). length j.events < j.room) (sym k.journal) room
+
+pub heard_took : (answers : Answerer) (l : Letter) (old mid new : Node) (stamp : ℕ) (acted : Acted) → is_odd old l ≡ false → length old.journal.events < old.journal.room → IsStamp old.clock l.stamp stamp → HearsAny answers stamp l.from l.message acted old mid
+    → new ≡ settled_in stamp acted mid → Heard answers l old new ⊎ Passed l old new
+heard_took answers l old mid new stamp acted usual space stamp_is hears settled = inl (record { usual = usual; space = space; stamp = stamp; stamp_is = stamp_is; acted = acted; mid = mid; hears = hears; settled = settled })
 
 -- ---- a reply
 
@@ -214,16 +246,16 @@ got_is pid done acted old h known g = subst (λ (b : Bool). MatchBool b (IsStran
 
 -- ---- a kind of turn was carried out
 
-pub carried_room : (k : Kind) (context : Option ℕ) (acted : Acted) (old mid : Node) → CarriesOut k context acted old mid → length old.journal.events < old.journal.room → length mid.journal.events < mid.journal.room
-carried_room k context acted old mid c room = let s = carries_keeps k context acted old mid c in subst (λ (j : JournalState). length j.events < j.room) (sym s.journal) room
+pub carried_room : (answers : Answerer) (stamp : ℕ) (k : Kind) (context : Option ℕ) (acted : Acted) (old mid : Node) → CarriesOut answers stamp k context acted old mid → length old.journal.events < old.journal.room → length mid.journal.events < mid.journal.room
+carried_room answers stamp k context acted old mid c room = let s = carries_keeps answers stamp k context acted old mid c in subst (λ (j : JournalState). length j.events < j.room) (sym s.journal) room
 
-pub went_is : (old mid new : Node) (k : Kind) (ready : Ready) (stamp : ℕ) (acted : Acted) (r : Rotation) → IsReady old ready → picked old.rotation.last ready ≡ Some k → old.shape.nodes ≤ 1 → length old.journal.events < old.journal.room
-    → IsStamp old.clock 0 stamp → CarriesOut k ready.context acted old mid → r ≡ rotated mid.rotation k ready.context → new ≡ settled_in stamp acted (record mid { rotation = r }) → Went old new
-went_is old mid new k ready stamp acted r is picks alone space stamp_is carries r_is settled =
-    let s = carries_keeps k ready.context acted old mid carries in
+pub went_is : (answers : Answerer) (old mid new : Node) (k : Kind) (ready : Ready) (stamp : ℕ) (acted : Acted) (r : Rotation) → IsReady old ready → picked old.rotation.last ready ≡ Some k → length old.journal.events ≤ old.journal.room → length old.journal.events < old.journal.room
+    → IsStamp old.clock 0 stamp → CarriesOut answers stamp k ready.context acted old mid → r ≡ rotated mid.rotation k ready.context → new ≡ settled_in stamp acted (record mid { rotation = r }) → Went answers old new
+went_is answers old mid new k ready stamp acted r is picks most space stamp_is carries r_is settled =
+    let s = carries_keeps answers stamp k ready.context acted old mid carries in
     record {
       kind = k;
-      picks = record { ready = ready; is = is; picked = picks; alone = alone };
+      picks = record { ready = ready; is = is; picked = picks; most = most };
       space = space;
       stamp = stamp;
       stamp_is = stamp_is;
@@ -231,4 +263,70 @@ went_is old mid new k ready stamp acted r is picks alone space stamp_is carries 
       mid = mid;
       carries = carries;
       settled = settled ∙ ap (λ (x : Rotation). settled_in stamp acted (record mid { rotation = x })) (r_is ∙ ap (λ (x : Rotation). rotated x k ready.context) s.rotation);
+    }
+
+pub lacks_is : (answers : Answerer) (old mid : Node) (k : Kind) (ready : Ready) (stamp : ℕ) (acted : Option Acted) → IsReady old ready → picked old.rotation.last ready ≡ Some k → length old.journal.events ≤ old.journal.room → acted ≡ None
+    → CarriesSome answers stamp k ready.context acted old mid → WentOn answers turned.Idle old mid
+lacks_is answers old mid k ready stamp acted is picks most none carries =
+    let fails = subst (λ (o : Option Acted). CarriesSome answers stamp k ready.context o old mid) none carries in
+    inr (record { kind = k; picks = record { ready = ready; is = is; picked = picks; most = most }; fails = fails.0 })
+
+pub carried_retry : (answers : Answerer) (stamp : ℕ) (context : Option ℕ) (acted : Option Acted) (old mid : Node) → RetriesSome acted old mid → CarriesSome answers stamp kind.Retry context acted old mid
+carried_retry answers stamp context None old mid r = r
+carried_retry answers stamp context (Some acted) old mid r = r
+
+pub carried_context : (answers : Answerer) (stamp : ℕ) (context : Option ℕ) (acted : Option Acted) (old mid : Node) → RunsSome context acted old mid → CarriesSome answers stamp kind.Context context acted old mid
+carried_context answers stamp context None old mid r = r
+carried_context answers stamp context (Some acted) old mid r = r
+
+pub carried_line : (answers : Answerer) (stamp : ℕ) (context : Option ℕ) (acted : Option Acted) (old mid : Node) → TasksSome (task_at (slice_get old.course.script old.course.done)) acted old mid → CarriesSome answers stamp kind.Line context acted old mid
+carried_line answers stamp context None old mid r = r
+carried_line answers stamp context (Some acted) old mid r = r
+
+-- ---- a half
+
+pub chosen_begun : (choice : Choice) (old : Node) (h : List code_context.Context) (first mail : List (ℕ × Message)) (need : ℕ) (found : Option ℕ) → Changes choice.pid (asking choice.to None) old.hosted h
+    → found ≡ option_map pages_of (lookup choice.pid old.hosted) → need ≡ unwrap_or found 0 → mail ≡ first ++ (choice.to, message.Ask choice.pid need) ∷ [] → BeginsChosen choice first mail old (record old { hosted = h })
+chosen_begun choice old h first mail need found changes found_is need_is mail_is =
+    let at : need ≡ pages_of changes.context = need_is ∙ ap (λ (o : Option ℕ). unwrap_or o 0) (found_is ∙ ap (option_map pages_of) changes.here) in
+    record {
+      changes = changes;
+      mail_is = mail_is ∙ ap (λ (n : ℕ). first ++ (choice.to, message.Ask choice.pid n) ∷ []) at;
+      rest = refl;
+    }
+
+abbrev sent_node : ℕ → Node → Node
+sent_node stamp old = record old { talk = told_talk (own_entry stamp old) (record old.talk { chance = chance_after old }) }
+
+abbrev sent_mail : ℕ → Node → List (ℕ × Message)
+sent_mail stamp old = (target_of old, message.Half (take 4 (renewed (own_entry stamp old) old.talk.vector))) ∷ []
+
+abbrev heard_node : ℕ → List (Option Entry) → Node → Node
+heard_node stamp heard old = record old { talk = heard_talk (own_entry stamp old) heard old.talk }
+
+pub half_sent : (answers : Answerer) (stamp : ℕ) (old drawn mid : Node) (own : Entry) (target : ℕ) (t : Talk) (places : List (Option Entry)) (first mail : List (ℕ × Message)) (chosen : Option Choice) (said : What)
+    → AreCounted old.hosted → own ≡ own_entry stamp old → target ≡ target_of old → drawn ≡ record old { talk = record old.talk { chance = chance_after old } } → t ≡ told_talk own drawn.talk → places ≡ take 4 t.vector
+    → first ≡ (target, message.Half places) ∷ [] → ActsOnChoice answers own first mail chosen (record drawn { talk = t }) mid → said ≡ told_half target chosen → SendsHalf answers stamp (record { what = said; mail = mail }) old mid
+half_sent answers stamp old drawn mid own target t places first mail chosen said counted own_is target_is drawn_is t_is places_is first_is decides said_is =
+    let now : t ≡ told_talk (own_entry stamp old) (record old.talk { chance = chance_after old }) = t_is ∙ (λ i. told_talk (own_is i) (drawn_is i).talk) in
+    let told : places ≡ take 4 (renewed (own_entry stamp old) old.talk.vector) = places_is ∙ ap (λ (x : Talk). take 4 x.vector) now in
+    let posts : first ≡ sent_mail stamp old = first_is ∙ (λ i. (target_is i, message.Half (told i)) ∷ []) in
+    let before : record drawn { talk = t } ≡ sent_node stamp old = (λ i. record (drawn_is i) { talk = now i }) in
+    record {
+      counted = counted;
+      chosen = chosen;
+      decides = subst (λ (o : Entry). ActsOnChoice answers o (sent_mail stamp old) mail chosen (sent_node stamp old) mid) own_is (subst (λ (f : List (ℕ × Message)). ActsOnChoice answers own f mail chosen (sent_node stamp old) mid) posts (subst (λ (n : Node). ActsOnChoice answers own first mail chosen n mid) before decides));
+      what = said_is ∙ ap (λ (n : ℕ). told_half n chosen) target_is;
+    }
+
+pub half_heard : (answers : Answerer) (stamp from : ℕ) (heard : List (Option Entry)) (old mid : Node) (own : Entry) (t : Talk) (first mail : List (ℕ × Message)) (chosen : Option Choice) (said : What)
+    → AreCounted old.hosted → own ≡ own_entry stamp old → t ≡ heard_talk own heard old.talk → first ≡ [] → ActsOnChoice answers own first mail chosen (record old { talk = t }) mid → said ≡ told_heard from chosen
+    → HearsHalf answers stamp from heard (record { what = said; mail = mail }) old mid
+half_heard answers stamp from heard old mid own t first mail chosen said counted own_is t_is first_is decides said_is =
+    let now : t ≡ heard_talk (own_entry stamp old) heard old.talk = t_is ∙ ap (λ (o : Entry). heard_talk o heard old.talk) own_is in
+    record {
+      counted = counted;
+      chosen = chosen;
+      decides = subst (λ (o : Entry). ActsOnChoice answers o [] mail chosen (heard_node stamp heard old) mid) own_is (subst (λ (f : List (ℕ × Message)). ActsOnChoice answers own f mail chosen (heard_node stamp heard old) mid) first_is (subst (λ (x : Talk). ActsOnChoice answers own first mail chosen (record old { talk = x }) mid) now decides));
+      what = said_is;
     }

@@ -1,6 +1,6 @@
 -- A turn without a letter: what is due, and that it is a turn by the laws.
 use Rattle.std.proofs.Common.{◌≡◌, ◌≢◌, ◌⊎◌, inl, inr, ℕ, ◌+◌, ◌<◌, ◌≤◌, ◌==◌, ◌&&◌, ◌||◌, cond, not, nat_lt, Bool, true, false, Option, Some, None, List, [], ◌∷◌, length, slice_get, refl, sym, ap, ◌∙◌, subst, arith}
-use Rattle.std.specs.Prelude.{◌-◌, ◌^◌, max, nat_le, is_some, MatchOption}
+use Rattle.std.specs.Prelude.{◌-◌, ◌^◌, max, nat_le, is_some, is_none, MatchOption}
 use Rattle.std.specs.Bool.{MatchBool}
 use Rattle.std.specs.List.{find}
 use Rattle.std.specs.Option.{option_map}
@@ -22,7 +22,7 @@ use Rattle.deputy.specs.Calls.{next_ready, goes_on, can_go_on}
 use Rattle.deputy.proofs.Retrying.{none_ready}
 use Rattle.protocol.specs.Home.{HasEnded, live_of, unheld}
 use Rattle.protocol.specs.Notes.{State, Running, Body, Context, context, Called as LawCalled}
-use Rattle.protocol.specs.Does.{EnabledHere}
+use Rattle.protocol.specs.Does.{EnabledHere, NoneRuns}
 use Rattle.protocol.specs.Odd.{stamp_end}
 use Rattle.protocol.specs.Rests.{Kind, Retry, RunOn, NextLine, SendHalf, MayGoOn, LineReady, Applies, Rests}
 use Rattle.protocol.proofs.Talk.{numbers_same, same_numbers}
@@ -34,20 +34,25 @@ use Rattle.node_core.specs.declared.rotation.Kind.TheVariants as kind
 use Rattle.node_core.specs.declared.rotation.Rotation.{Rotation}
 use Rattle.node_core.specs.Locals.{local, slot_of, called_of, context_of, body_of, state_of}
 use Rattle.node_core.specs.Suits.{Suits}
-use Rattle.node_core.specs.Rotation.{rotated}
-use Rattle.node_core.specs.Kinds.{IsReady, has_ended, is_enabled, line_enabled, CarriesOut, RunsContext, ContextActs, TaskActs, LineActs, task_of, task_at, OnHosted}
+use Rattle.node_core.specs.Rotation.{picked, rotated}
+use Rattle.node_core.specs.declared.rotation.Ready.{Ready}
+use Rattle.node_core.specs.Kinds.{CallsWait, LineFails, TaskFails, KindFails, IsReady, has_ended, is_enabled, line_enabled, CarriesOut, RunsContext, ContextActs, TaskActs, LineActs, task_of, task_at, OnHosted}
 use Rattle.node_core.specs.Kinds as kinds
 use Rattle.node_core.specs.Turns.{Made}
-use Rattle.node_core.specs.Turning.{Picks, Went}
+use Rattle.node_core.specs.Turning.{Picks, Lacks, Went}
 use Rattle.node_core.proofs.Settling.{Acts, recorded_made}
 use Rattle.node_core.proofs.Contexts.{sent_acts, heeded_acts, stepped_acts}
 use Rattle.node_core.proofs.Firsts.{serve_is}
 use Rattle.node_core.proofs.Home.{live_given, above_zero}
 use Rattle.node_core.proofs.Living.{live_reversed}
 use Rattle.node_core.proofs.Retrying.{retry_acts}
-use Rattle.node_core.proofs.Launching.{AtLine, launch_acts}
+use Rattle.node_core.proofs.Launching.{AtLine, has_context, launch_acts}
 use Rattle.node_core.proofs.Orders.{kill_acts, move_acts, feed_acts, end_acts, pass_acts}
-use Rattle.node_core.proofs.Picking.{ReadyFor, picked_ready, NoneReady, none_picked}
+use Rattle.node_core.proofs.Picking.{ReadyFor, picked_ready, picked_early, NoneReady, none_picked}
+use Rattle.node_core.specs.Sight.{Answerer}
+use Rattle.node_core.specs.Halves.{has_others, is_late, target_of}
+use Rattle.node_core.proofs.Halving.{Gives, Due, due, due_late, due_found, half_ready, many_is}
+use Rattle.node_core.proofs.Talking.{sends_acts}
 
 -- ---- tests
 
@@ -287,11 +292,27 @@ module _ (policy : Policy) (plan : Plan) where
       go (Retry p) (home, m) = no_retry old p (retries home) m
       go (RunOn p) (b, e) = let z : true ≡ false = sym (runs_if (lookup p old.hosted) b e) ∙ runs.none p in absurd cc
       go NextLine (home, r) = no_line home r
-      go (SendHalf other) h = let many = h.many in let alone = picks.alone in let e = suits.shape.nodes in omega (arith, many, alone, e)
+      go (SendHalf other) h =
+          let found = due_found policy plan old (is_none picks.ready.context) other suits picks.most picks.is.counted (λ quiet. ap is_none none.context) h in
+          let z : false ≡ true = sym none.half ∙ (picks.is.half ∙ found) in absurd cc
+
+  -- where no context is next none runs
+  none_runs : (old : Node) (o : Option ℕ) → MatchOption o (NonePasses (λ q. runs_at q old.hosted)) (IsNext (λ q. runs_at q old.hosted) old.rotation.after) → is_none o ≡ true → NoneRuns (machine policy plan) (local policy plan old)
+  none_runs old None passes e = λ p b here. let z : true ≡ false = sym (runs_if (lookup p old.hosted) b here) ∙ passes.none p in absurd cc
+  none_runs old (Some p) next e = absurd cc
+
+  -- a half that is ready is due
+  half_due : (old : Node) (ready : Ready) → Suits plan old → IsReady old ready → (ready.half ≡ true) ⊎ (ready.late ≡ true) → (has_others old ≡ true) × Due policy plan old (NoneRuns (machine policy plan) (local policy plan old))
+  half_due old ready suits is (inl e) =
+      let here = sym is.half ∙ e in
+      (and_first (has_others old) _ here, due policy plan old (is_none ready.context) (NoneRuns (machine policy plan) (local policy plan old)) suits (none_runs old ready.context is.context) here)
+  half_due old ready suits is (inr e) =
+      let here = sym is.late ∙ e in
+      (and_first (has_others old) (is_late old) here, due_late policy plan old (NoneRuns (machine policy plan) (local policy plan old)) suits here)
 
   -- something is: that kind applies
-  pub some_applies : (old : Node) (k : code_kind.Kind) → k ≢ kind.Retry → Suits plan old → Picks (Some k) old → (law : Kind) × Applies (machine policy plan) law old.id (local policy plan old)
-  some_applies old k other suits picks = go k other (picked_ready old.rotation.last k picks.ready picks.picked)
+  pub some_applies : (old : Node) (k : code_kind.Kind) → Suits plan old → Picks (Some k) old → (law : Kind) × Applies (machine policy plan) law old.id (local policy plan old)
+  some_applies old k suits picks = go k (picked_ready old.rotation.last k picks.ready picks.picked)
     where
       context : (o : Option ℕ) → MatchOption o (NonePasses (λ q. runs_at q old.hosted)) (IsNext (λ q. runs_at q old.hosted) old.rotation.after) → is_some o ≡ true → (law : Kind) × Applies (machine policy plan) law old.id (local policy plan old)
       context None m e = absurd cc
@@ -301,14 +322,53 @@ module _ (policy : Policy) (plan : Plan) where
       line None here home e = absurd cc
       line (Some s) here home e = (NextLine, (home, record { line = s; next = sym (plan_line old suits home) ∙ here; enabled = enabled_law old s.order e }))
 
-      go : (k : code_kind.Kind) → k ≢ kind.Retry → ReadyFor picks.ready k → (law : Kind) × Applies (machine policy plan) law old.id (local policy plan old)
-      go kind.Retry other e = absurd (other refl)
-      go kind.Context other e = context picks.ready.context picks.is.context e
-      go kind.Line other e =
+      retry : (o : Option ℕ) → next_ready old.deputies ≡ o → is_some o ≡ true → old.id ≡ 0 → CallsWait old.deputies → (law : Kind) × Applies (machine policy plan) law old.id (local policy plan old)
+      retry None next some home waits = absurd cc
+      retry (Some p) next some home waits = (Retry p, retry_due old p home waits next)
+
+      go : (k : code_kind.Kind) → ReadyFor picks.ready k → (law : Kind) × Applies (machine policy plan) law old.id (local policy plan old)
+      go kind.Retry e =
+          let both = sym picks.is.retry ∙ e in
+          retry (next_ready old.deputies) refl (and_second (old.id == 0) _ both) (numbers_same old.id 0 (and_first (old.id == 0) _ both)) (picks.is.waits e)
+      go kind.Context e = context picks.ready.context picks.is.context e
+      go kind.Line e =
           let both = sym picks.is.line ∙ e in
           line (slice_get old.course.script old.course.done) refl (numbers_same old.id 0 (and_first (old.id == 0) _ both)) (and_second (old.id == 0) _ both)
-      go kind.Half other (inl e) = let z : false ≡ true = sym picks.is.half ∙ e in absurd cc
-      go kind.Half other (inr e) = let z : false ≡ true = sym picks.is.late ∙ e in absurd cc
+      go kind.Half e = let h = half_due old picks.ready suits picks.is e in (SendHalf (target_of old), half_ready policy plan old suits picks.most picks.is.counted h.0 h.1)
+
+  -- what is ready can be carried out
+  pub none_lacks : (old : Node) → Suits plan old → Lacks old → ⊥
+  none_lacks old suits l = go l.kind (picked_ready old.rotation.last l.kind l.picks.ready l.picks.picked) l.fails
+    where
+      ready : Ready
+      ready = l.picks.ready
+
+      launches : (s : ScriptLine) (words : List (List ℕ)) → slice_get old.course.script old.course.done ≡ Some s → s.order ≡ order.Run words → old.id ≡ 0 → has_room old.deputies.kernel ≡ true → (has_room old.deputies.kernel ≡ false) ⊎ (old.course.users ≡ []) → ⊥
+      launches s words here is home room (inl none) = let z : true ≡ false = sym room ∙ none in absurd cc
+      launches s words here is home room (inr none) = has_context policy plan old s words (record { suits = suits; home = home; line = here }) is none
+
+      line_fails : (s : ScriptLine) (o : Order) → slice_get old.course.script old.course.done ≡ Some s → s.order ≡ o → old.id ≡ 0 → is_enabled o old ≡ true → LineFails (task_of o) old → ⊥
+      line_fails s (order.Run words) here is home on f = launches s words here is home on f
+      line_fails s (order.Kill p signal) here is home on f = f
+      line_fails s (order.Move p to) here is home on f = f
+      line_fails s (order.Feed text) here is home on f = f
+      line_fails s order.Eof here is home on f = f
+      line_fails s (order.Wait p) here is home on f = f
+      line_fails s (order.After p count) here is home on f = f
+      line_fails s (order.Held p) here is home on f = f
+      line_fails s (order.Slots count) here is home on f = f
+
+      line : (o : Option ScriptLine) → slice_get old.course.script old.course.done ≡ o → old.id ≡ 0 → line_enabled o old ≡ true → TaskFails (task_at o) old → ⊥
+      line None here home on f = absurd cc
+      line (Some s) here home on f = line_fails s s.order here refl home on f
+
+      go : (k : code_kind.Kind) → ReadyFor ready k → KindFails k ready.context old → ⊥
+      go kind.Retry e f = let z : true ≡ false = sym (and_second (old.id == 0) _ (sym l.picks.is.retry ∙ e)) ∙ ap is_some f in absurd cc
+      go kind.Context e f = let z : true ≡ false = sym e ∙ ap is_some f in absurd cc
+      go kind.Line e f =
+          let both = sym l.picks.is.line ∙ e in
+          line (slice_get old.course.script old.course.done) refl (numbers_same old.id 0 (and_first (old.id == 0) _ both)) (and_second (old.id == 0) _ both) f
+      go kind.Half e f = f
 
   -- ---- a kind that is carried out
 
@@ -322,14 +382,14 @@ module _ (policy : Policy) (plan : Plan) where
         suits = record { is_plan = s.is_plan; below = s.below; shape = s.shape; room = s.room; within = record { clock = s.within.clock; served = s.within.served; sent = s.within.sent; steps = s.within.steps }; course = s.course; chance = s.chance };
       }
 
-  context_acts : (old mid : Node) (stamp p : ℕ) (acted : Acted) → Suits plan old → length old.journal.events < old.journal.room → stamp ≡ old.clock + 1 → old.shape.nodes ≤ 1 → runs_at p old.hosted ≡ true → ContextActs p acted old mid → Acts policy plan stamp None acted old mid
-  context_acts old mid stamp p acted suits space at alone runs c = subst (λ (n : ℕ). Acts policy plan n None acted old mid) (sym at) (go (poked_as (lookup p old.hosted)) refl c)
+  context_acts : (old mid : Node) (stamp p : ℕ) (acted : Acted) → Suits plan old → length old.journal.events < old.journal.room → stamp ≡ old.clock + 1 → (2 ≤ plan.nodes → old.talk.steps < 16) → runs_at p old.hosted ≡ true → ContextActs p acted old mid → Acts policy plan stamp None acted old mid
+  context_acts old mid stamp p acted suits space at no_half runs c = subst (λ (n : ℕ). Acts policy plan n None acted old mid) (sym at) (go (poked_as (lookup p old.hosted)) refl c)
     where
       on : (h : List code_context.Context) → mid ≡ record old { hosted = h } → Acts policy plan (old.clock + 1) None acted old (record old { hosted = h }) → Acts policy plan (old.clock + 1) None acted old mid
       on h rest a = subst (λ (m : Node). Acts policy plan (old.clock + 1) None acted old m) (sym rest) a
 
       unpoked : poked_as (lookup p old.hosted) ≡ false → ((k : ℕ) × kinds.Steps k p acted old mid) ⊎ OnHosted (Rattle.remote_ctx.specs.Acting.Sends acted p) old mid → Acts policy plan (old.clock + 1) None acted old mid
-      unpoked e (inl (k, s)) = stepped_acts policy plan old p k acted mid suits space runs e (λ many. let n = suits.shape.nodes in absurd (omega (arith, many, alone, n))) s
+      unpoked e (inl (k, s)) = stepped_acts policy plan old p k acted mid suits space runs e no_half s
       unpoked e (inr o) = on mid.hosted o.rest (sent_acts policy plan old p acted mid.hosted suits runs e o.does)
 
       go : (b : Bool) → poked_as (lookup p old.hosted) ≡ b → MatchBool b (OnHosted (Rattle.remote_ctx.specs.Acting.Heeds acted p) old mid) (((k : ℕ) × kinds.Steps k p acted old mid) ⊎ OnHosted (Rattle.remote_ctx.specs.Acting.Sends acted p) old mid) → Acts policy plan (old.clock + 1) None acted old mid
@@ -347,8 +407,16 @@ module _ (policy : Policy) (plan : Plan) where
   line_acts old mid stamp s (order.Held p) acted at is on early l = pass_acts policy plan old mid stamp s (order.Held p) acted at is refl tt refl (enabled_law old (order.Held p) on) early l
   line_acts old mid stamp s (order.Slots count) acted at is on early l = pass_acts policy plan old mid stamp s (order.Slots count) acted at is refl tt refl (enabled_law old (order.Slots count) on) early l
 
-  pub went_turn : (old new : Node) → Suits plan old → Went old new → Made policy plan None old new
-  went_turn old new suits w = recorded_made policy plan old (record w.mid { rotation = rotated old.rotation w.kind w.picks.ready.context }) new w.stamp None w.acted suits (acts_rotated old w.mid w.stamp w.acted _ (go w.kind (picked_ready old.rotation.last w.kind w.picks.ready w.picks.picked) w.carries)) at tt w.settled
+  steps_few : (nodes steps : ℕ) → (nat_le 2 nodes && nat_le 16 steps) ≡ false → 2 ≤ nodes → steps < 16
+  steps_few nodes steps e many = go (nat_le 2 nodes) (nat_le 16 steps) refl refl e
+    where
+      go : (a b : Bool) → nat_le 2 nodes ≡ a → nat_le 16 steps ≡ b → (a && b) ≡ false → steps < 16
+      go true true f g h = absurd cc
+      go true false f g h = grind (arith, nat_tests, g)
+      go false b f g h = grind (arith, nat_tests, f, many)
+
+  pub went_turn : (answers : Answerer) → Gives answers policy → (old new : Node) → Suits plan old → Went answers old new → Made policy plan None old new
+  went_turn answers gives old new suits w = recorded_made policy plan old (record w.mid { rotation = rotated old.rotation w.kind w.picks.ready.context }) new w.stamp None w.acted suits (acts_rotated old w.mid w.stamp w.acted _ (go w.kind w.picks.picked (picked_ready old.rotation.last w.kind w.picks.ready w.picks.picked) w.carries)) at tt w.settled
     where
       few : old.journal.room ≤ 1048576
       few = let e = suits.room in let m = suits.shape.most_events in omega (arith, e, m)
@@ -365,16 +433,16 @@ module _ (policy : Policy) (plan : Plan) where
       home_by : (b : Bool) (flag : Bool) → flag ≡ ((old.id == 0) && b) → flag ≡ true → old.id ≡ 0
       home_by b flag is e = numbers_same old.id 0 (and_first (old.id == 0) b (sym is ∙ e))
 
-      context : (o : Option ℕ) → MatchOption o (NonePasses (λ q. runs_at q old.hosted)) (IsNext (λ q. runs_at q old.hosted) old.rotation.after) → RunsContext o w.acted old w.mid → Acts policy plan w.stamp None w.acted old w.mid
-      context None m r = absurd r
-      context (Some p) m r = context_acts old w.mid w.stamp p w.acted suits w.space at w.picks.alone m.is r
+      context : w.picks.ready.late ≡ false → (o : Option ℕ) → MatchOption o (NonePasses (λ q. runs_at q old.hosted)) (IsNext (λ q. runs_at q old.hosted) old.rotation.after) → RunsContext o w.acted old w.mid → Acts policy plan w.stamp None w.acted old w.mid
+      context early_so None m r = absurd r
+      context early_so (Some p) m r = context_acts old w.mid w.stamp p w.acted suits w.space at (λ many. steps_few old.shape.nodes old.talk.steps (sym w.picks.is.late ∙ early_so) (let n = suits.shape.nodes in omega (arith, n, many))) m.is r
 
       line : (o : Option ScriptLine) → slice_get old.course.script old.course.done ≡ o → old.id ≡ 0 → line_enabled o old ≡ true → TaskActs (task_at o) w.acted old w.mid → Acts policy plan w.stamp None w.acted old w.mid
       line None here home on l = absurd l
       line (Some s) here home on l = line_acts old w.mid w.stamp s s.order w.acted (record { suits = suits; home = home; line = here }) refl on early l
 
-      go : (k : code_kind.Kind) → ReadyFor w.picks.ready k → CarriesOut k w.picks.ready.context w.acted old w.mid → Acts policy plan w.stamp None w.acted old w.mid
-      go kind.Retry e c = retry_acts policy plan old w.mid w.stamp w.acted suits (home_by (is_some (next_ready old.deputies)) w.picks.ready.retry w.picks.is.retry e) early w.space c
-      go kind.Context e c = context w.picks.ready.context w.picks.is.context c
-      go kind.Line e c = line (slice_get old.course.script old.course.done) refl (home_by (line_enabled (slice_get old.course.script old.course.done) old) w.picks.ready.line w.picks.is.line e) (and_second (old.id == 0) _ (sym w.picks.is.line ∙ e)) c
-      go kind.Half e c = absurd c
+      go : (k : code_kind.Kind) → picked old.rotation.last w.picks.ready ≡ Some k → ReadyFor w.picks.ready k → CarriesOut answers w.stamp k w.picks.ready.context w.acted old w.mid → Acts policy plan w.stamp None w.acted old w.mid
+      go kind.Retry p e c = retry_acts policy plan old w.mid w.stamp w.acted suits (home_by (is_some (next_ready old.deputies)) w.picks.ready.retry w.picks.is.retry e) early w.space c
+      go kind.Context p e c = context (picked_early old.rotation.last w.picks.ready p) w.picks.ready.context w.picks.is.context c
+      go kind.Line p e c = line (slice_get old.course.script old.course.done) refl (home_by (line_enabled (slice_get old.course.script old.course.done) old) w.picks.ready.line w.picks.is.line e) (and_second (old.id == 0) _ (sym w.picks.is.line ∙ e)) c
+      go kind.Half p e c = let h = half_due old w.picks.ready suits w.picks.is e in sends_acts policy plan answers old w.mid w.stamp w.acted gives suits w.picks.most early (many_is policy plan old suits h.0) h.1 c

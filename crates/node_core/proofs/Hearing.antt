@@ -21,7 +21,11 @@ use Rattle.node_core.specs.Locals.{local, note_of, places_of, post_at, post_of}
 use Rattle.node_core.specs.Suits.{Suits}
 use Rattle.node_core.specs.Kinds.{is_misplaced, IsStrange, HearsHere}
 use Rattle.node_core.specs.Turns.{Made, PassedOver, one_more, is_strange, skipped_in, recorded_in}
+use Rattle.node_core.specs.Sight.{Answerer}
+use Rattle.node_core.specs.Halves.{HearsHalf}
 use Rattle.node_core.specs.Turning.{has_many_hops, HearsAny, Heard, Passed}
+use Rattle.node_core.proofs.Halving.{Gives}
+use Rattle.node_core.proofs.Talking.{hears_acts}
 use Rattle.node_core.proofs.Settling.{Hears, Fits, Misfits, recorded_made, skipped_made, suits_skipped}
 use Rattle.node_core.proofs.Home.{call_hears, pause_hears}
 use Rattle.node_core.proofs.Contexts.{poke_hears}
@@ -95,6 +99,12 @@ far_places nodes (Some x ∷ rest) e = go (λ f. far_places nodes rest f) (and_f
     go : (list_all (λ n. nat_lt n nodes) (flat_map node_of_entry rest) ≡ false → FarPlaces nodes (places_of rest)) → (nat_lt x.node nodes ≡ false) ⊎ (list_all (λ n. nat_lt n nodes) (flat_map node_of_entry rest) ≡ false) → (nodes ≤ x.node) ⊎ FarPlaces nodes (places_of rest)
     go more (inl f) = inl (below_not x.node nodes f)
     go more (inr f) = inr (more f)
+
+near_places : (nodes : ℕ) (places : List (Option code_entry.Entry)) → list_all (λ n. nat_lt n nodes) (flat_map node_of_entry places) ≡ true → FarPlaces nodes (places_of places) → ⊥
+near_places nodes [] e far = far
+near_places nodes (None ∷ rest) e far = near_places nodes rest e far
+near_places nodes (Some x ∷ rest) e (inl far) = let near = below_is x.node nodes (and_first (nat_lt x.node nodes) _ e) in omega (arith, near, far)
+near_places nodes (Some x ∷ rest) e (inr far) = near_places nodes rest (and_second (nat_lt x.node nodes) _ e) far
 
 one_far : (node nodes : ℕ) → (nat_lt node nodes && true) ≡ false → nodes ≤ node
 one_far node nodes e = go (and_fails (nat_lt node nodes) true e)
@@ -171,29 +181,42 @@ module _ (policy : Policy) (plan : Plan) where
 
   -- ---- messages in their place
 
-  here_hears : (old mid : Node) (stamp from sent : ℕ) (m : Message) (acted : Acted) → Suits plan old → is_misplaced old from m ≡ false → stamp ≤ stamp_end + (length old.journal.events + 1) → length old.journal.events < old.journal.room → (ManyHops (machine policy plan) (note_of policy plan m) → ⊥)
-      → HearsHere from m acted old mid → Hears policy plan stamp old.id from sent m acted old mid
-  here_hears old mid stamp from sent (message.Call p r) acted suits placed early space few (each, h) = call_hears policy plan old mid stamp from sent p r acted suits (home_of old from (message.Call p r) placed refl) (near_from old from (message.Call p r) suits.shape.nodes placed) early space each h
-  here_hears old mid stamp from sent (message.Pause p room) acted suits placed early space few h = pause_hears policy plan old mid stamp from sent p room acted suits (home_of old from (message.Pause p room) placed refl) (near_from old from (message.Pause p room) suits.shape.nodes placed) early h
-  here_hears old mid stamp from sent (message.Reply p d) acted suits placed early space few h = reply_hears policy plan old mid stamp from sent p d acted suits (near_from old from (message.Reply p d) suits.shape.nodes placed) early h
-  here_hears old mid stamp from sent (message.Poke p) acted suits placed early space few h = poke_hears policy plan old mid stamp from sent p acted suits (near_from old from (message.Poke p) suits.shape.nodes placed) early h
-  here_hears old mid stamp from sent (message.Go p to hops line) acted suits placed early space few h = go_hears policy plan old mid stamp from sent p to hops line acted suits (near_from old from (message.Go p to hops line) suits.shape.nodes placed) (near_node old from (message.Go p to hops line) to suits.shape.nodes refl placed) early h
-  here_hears old mid stamp from sent (message.NotHere p to hops line) acted suits placed early space few h = missed_hears policy plan old mid stamp from sent p to hops line acted suits (home_of old from (message.NotHere p to hops line) placed refl) (near_from old from (message.NotHere p to hops line) suits.shape.nodes placed) (near_node old from (message.NotHere p to hops line) to suits.shape.nodes refl placed) early h
-  here_hears old mid stamp from sent (message.NoMove line) acted suits placed early space few h = closed_hears policy plan old mid stamp from sent line acted suits (home_of old from (message.NoMove line) placed refl) (near_from old from (message.NoMove line) suits.shape.nodes placed) early h
-  here_hears old mid stamp from sent (message.Ask p need) acted suits placed early space few h = ask_hears policy plan old mid stamp from sent p need acted suits (near_from old from (message.Ask p need) suits.shape.nodes placed) early h
-  here_hears old mid stamp from sent (message.Allow p) acted suits placed early space few h = allow_hears policy plan old mid stamp from sent p acted suits (near_from old from (message.Allow p) suits.shape.nodes placed) early h
-  here_hears old mid stamp from sent (message.Deny p need free) acted suits placed early space few h = deny_hears policy plan old mid stamp from sent p need free acted suits (near_from old from (message.Deny p need free) suits.shape.nodes placed) early h
-  here_hears old mid stamp from sent (message.Move p u hops line) acted suits placed early space few h = move_hears policy plan old mid stamp from sent p u hops line acted suits (near_from old from (message.Move p u hops line) suits.shape.nodes placed) early (below_of hops hops_end few) h
-  here_hears old mid stamp from sent (message.Landed p source hops line) acted suits placed early space few h = landed_hears policy plan old mid stamp from sent p source hops line acted suits (home_of old from (message.Landed p source hops line) placed refl) (near_from old from (message.Landed p source hops line) suits.shape.nodes placed) (near_node old from (message.Landed p source hops line) source suits.shape.nodes refl placed) early h
-  here_hears old mid stamp from sent (message.Half places) acted suits placed early space few (own, s) = Misfits s.what (inl own) s.same
+  -- a half
+  half_no_misfit : (old : Node) (from : ℕ) (places : List (Option code_entry.Entry)) → old.shape.nodes ≡ plan.nodes → is_misplaced old from (message.Half places) ≡ false → from ≢ old.id → Unfit (machine policy plan) old.id from (local policy plan old) (note_of policy plan (message.Half places)) → ⊥
+  half_no_misfit old from places nodes placed away (inl own) = away own
+  half_no_misfit old from places nodes placed away (inr (inl far)) = let near = near_from old from (message.Half places) nodes placed in omega (arith, near, far)
+  half_no_misfit old from places nodes placed away (inr (inr far)) =
+      let below = not_false _ (or_first (not (are_below old.shape.nodes (from ∷ nodes_of (message.Half places)))) (not (old.id == 0) && false) placed) in
+      near_places plan.nodes places (ap (λ n. are_below n (flat_map node_of_entry places)) (sym nodes) ∙ and_second (nat_lt from old.shape.nodes) (are_below old.shape.nodes (flat_map node_of_entry places)) below) far
 
-  any_hears : (old mid : Node) (stamp from sent : ℕ) (m : Message) (acted : Acted) → Suits plan old → stamp ≤ stamp_end + (length old.journal.events + 1) → length old.journal.events < old.journal.room → (ManyHops (machine policy plan) (note_of policy plan m) → ⊥)
-      → HearsAny from m acted old mid → Hears policy plan stamp old.id from sent m acted old mid
-  any_hears old mid stamp from sent m acted suits early space few h = go (is_misplaced old from m) refl h
-    where
-      go : (b : Bool) → is_misplaced old from m ≡ b → MatchBool b (IsStrange acted old mid) (HearsHere from m acted old mid) → Hears policy plan stamp old.id from sent m acted old mid
-      go true e s = Misfits s.what (misplaced_unfit old from m suits.shape.nodes e) s.same
-      go false e x = here_hears old mid stamp from sent m acted suits e early space few x
+  module _ (answers : Answerer) (gives : Gives answers policy) where
+    here_hears : (old mid : Node) (stamp from sent : ℕ) (m : Message) (acted : Acted) → Suits plan old → is_misplaced old from m ≡ false → stamp ≤ stamp_end + (length old.journal.events + 1) → length old.journal.events < old.journal.room → (ManyHops (machine policy plan) (note_of policy plan m) → ⊥)
+        → HearsHere answers stamp from m acted old mid → Hears policy plan stamp old.id from sent m acted old mid
+    here_hears old mid stamp from sent (message.Call p r) acted suits placed early space few (each, h) = call_hears policy plan old mid stamp from sent p r acted suits (home_of old from (message.Call p r) placed refl) (near_from old from (message.Call p r) suits.shape.nodes placed) early space each h
+    here_hears old mid stamp from sent (message.Pause p room) acted suits placed early space few h = pause_hears policy plan old mid stamp from sent p room acted suits (home_of old from (message.Pause p room) placed refl) (near_from old from (message.Pause p room) suits.shape.nodes placed) early h
+    here_hears old mid stamp from sent (message.Reply p d) acted suits placed early space few h = reply_hears policy plan old mid stamp from sent p d acted suits (near_from old from (message.Reply p d) suits.shape.nodes placed) early h
+    here_hears old mid stamp from sent (message.Poke p) acted suits placed early space few h = poke_hears policy plan old mid stamp from sent p acted suits (near_from old from (message.Poke p) suits.shape.nodes placed) early h
+    here_hears old mid stamp from sent (message.Go p to hops line) acted suits placed early space few h = go_hears policy plan old mid stamp from sent p to hops line acted suits (near_from old from (message.Go p to hops line) suits.shape.nodes placed) (near_node old from (message.Go p to hops line) to suits.shape.nodes refl placed) early h
+    here_hears old mid stamp from sent (message.NotHere p to hops line) acted suits placed early space few h = missed_hears policy plan old mid stamp from sent p to hops line acted suits (home_of old from (message.NotHere p to hops line) placed refl) (near_from old from (message.NotHere p to hops line) suits.shape.nodes placed) (near_node old from (message.NotHere p to hops line) to suits.shape.nodes refl placed) early h
+    here_hears old mid stamp from sent (message.NoMove line) acted suits placed early space few h = closed_hears policy plan old mid stamp from sent line acted suits (home_of old from (message.NoMove line) placed refl) (near_from old from (message.NoMove line) suits.shape.nodes placed) early h
+    here_hears old mid stamp from sent (message.Ask p need) acted suits placed early space few h = ask_hears policy plan old mid stamp from sent p need acted suits (near_from old from (message.Ask p need) suits.shape.nodes placed) early h
+    here_hears old mid stamp from sent (message.Allow p) acted suits placed early space few h = allow_hears policy plan old mid stamp from sent p acted suits (near_from old from (message.Allow p) suits.shape.nodes placed) early h
+    here_hears old mid stamp from sent (message.Deny p need free) acted suits placed early space few h = deny_hears policy plan old mid stamp from sent p need free acted suits (near_from old from (message.Deny p need free) suits.shape.nodes placed) early h
+    here_hears old mid stamp from sent (message.Move p u hops line) acted suits placed early space few h = move_hears policy plan old mid stamp from sent p u hops line acted suits (near_from old from (message.Move p u hops line) suits.shape.nodes placed) early (below_of hops hops_end few) h
+    here_hears old mid stamp from sent (message.Landed p source hops line) acted suits placed early space few h = landed_hears policy plan old mid stamp from sent p source hops line acted suits (home_of old from (message.Landed p source hops line) placed refl) (near_from old from (message.Landed p source hops line) suits.shape.nodes placed) (near_node old from (message.Landed p source hops line) source suits.shape.nodes refl placed) early h
+    here_hears old mid stamp from sent (message.Half places) acted suits placed early space few h = go (from == old.id) refl h
+      where
+        go : (b : Bool) → (from == old.id) ≡ b → MatchBool b (IsStrange acted old mid) (HearsHalf answers stamp from places acted old mid) → Hears policy plan stamp old.id from sent (message.Half places) acted old mid
+        go true e s = Misfits s.what (inl (numbers_same from old.id e)) s.same
+        go false e x = Fits (hears_acts policy plan answers old mid stamp from sent places acted gives suits (omega (arith, space)) early x) (half_no_misfit old from places suits.shape.nodes placed (numbers_other from old.id e))
+
+    any_hears : (old mid : Node) (stamp from sent : ℕ) (m : Message) (acted : Acted) → Suits plan old → stamp ≤ stamp_end + (length old.journal.events + 1) → length old.journal.events < old.journal.room → (ManyHops (machine policy plan) (note_of policy plan m) → ⊥)
+        → HearsAny answers stamp from m acted old mid → Hears policy plan stamp old.id from sent m acted old mid
+    any_hears old mid stamp from sent m acted suits early space few h = go (is_misplaced old from m) refl h
+      where
+        go : (b : Bool) → is_misplaced old from m ≡ b → MatchBool b (IsStrange acted old mid) (HearsHere answers stamp from m acted old mid) → Hears policy plan stamp old.id from sent m acted old mid
+        go true e s = Misfits s.what (misplaced_unfit old from m suits.shape.nodes e) s.same
+        go false e x = here_hears old mid stamp from sent m acted suits e early space few x
 
   -- ---- all letters
 
@@ -253,15 +276,15 @@ module _ (policy : Policy) (plan : Plan) where
   early_is clock sent events stamp a b c = omega (arith, a, b, c)
 
   -- a letter of which the node makes something
-  pub heard_turn : (old new : Node) (l : Letter) → Suits plan old → Heard l old new → Made policy plan (Some l) old new ⊎ PassedOver policy plan (Some l) old new
-  heard_turn old new l suits h =
+  pub heard_turn : (answers : Answerer) → Gives answers policy → (old new : Node) (l : Letter) → Suits plan old → Heard answers l old new → Made policy plan (Some l) old new ⊎ PassedOver policy plan (Some l) old new
+  heard_turn answers gives old new l suits h =
       let few : old.journal.room ≤ 1048576 = let e = suits.room in let m = suits.shape.most_events in omega (arith, e, m) in
       let sent : l.stamp < stamp_end = at_most_not stamp_end l.stamp (or_first (nat_le stamp_end l.stamp) _ h.usual) in
       let rest = or_second (nat_le stamp_end l.stamp) _ h.usual in
       let hops = or_second (nat_le old.shape.nodes l.to) (has_many_hops l.message) rest in
       let at : h.stamp ≡ max old.clock l.stamp + 1 = h.stamp_is (low_max old.clock l.stamp (length old.journal.events) old.journal.room suits.within.clock sent h.space few) in
       let early = early_is old.clock l.stamp (length old.journal.events) h.stamp suits.within.clock sent at in
-      go sent (many_hops_is l.message hops) at (any_hears old h.mid h.stamp l.from l.stamp l.message h.acted suits early h.space (many_hops_is l.message hops) h.hears)
+      go sent (many_hops_is l.message hops) at (any_hears answers gives old h.mid h.stamp l.from l.stamp l.message h.acted suits early h.space (many_hops_is l.message hops) h.hears)
     where
       go : l.stamp < stamp_end → (ManyHops (machine policy plan) (note_of policy plan l.message) → ⊥) → h.stamp ≡ max old.clock l.stamp + 1 → Hears policy plan h.stamp old.id l.from l.stamp l.message h.acted old h.mid → Made policy plan (Some l) old new ⊎ PassedOver policy plan (Some l) old new
       go sent hops at (Fits acts fitting) = inl (recorded_made policy plan old h.mid new h.stamp (Some l) h.acted suits acts at usual h.settled)

@@ -1,9 +1,10 @@
 -- What home does with a line of the script is a turn by the laws.
 use Rattle.std.proofs.Common.{◌≡◌, ℕ, ◌+◌, ◌<◌, ◌≤◌, ◌==◌, cond, Bool, true, false, Option, Some, None, List, [], ◌∷◌, ◌++◌, length, take, slice_get, refl, sym, ap, ◌∙◌, subst, arith}
-use Rattle.std.specs.Prelude.{reverse}
+use Rattle.std.specs.Prelude.{reverse, nat_lt}
 use Rattle.std.specs.Option.{option_map}
 use Rattle.std.specs.FinMap as fin_map
-use Rattle.std.proofs.lemmas.List.{reverse-append, length-append}
+use Rattle.std.proofs.lemmas.Bool.Decides.{nat_tests}
+use Rattle.std.proofs.lemmas.List.{reverse-append, length-append, append-nil}
 use Rattle.call_forward.specs.declared.acted.Acted.{Acted}
 use Rattle.node_event.specs.declared.event.What.TheVariants as what
 use Rattle.node_event.specs.declared.event.Unsent as unsent_type
@@ -117,6 +118,21 @@ module _ (policy : Policy) (plan : Plan) where
       ∙ by_same (λ k. believed_of (at_pid old.deputies.rows q) ≡ cond k (record { place = 0; hops = 0 }) (believed_of (at_pid old.deputies.rows q))) q p
       (λ same. ap believed_of (none_after old.deputies.rows q (omega (arith, same, new))))
       (λ ne. refl))
+
+  -- a `run` line to come has its context
+  pub has_context : (old : Node) (s : ScriptLine) (words : List (List ℕ)) → AtLine old s → s.order ≡ order.Run words → old.course.users ≡ [] → ⊥
+  has_context old s words a is none =
+      let f = a.suits.course a.home in
+      let here = in_plan old s a in
+      let image = has_image plan.script (length plan.users) a.suits.is_plan.images a.suits.is_plan.rising old.course.done s here words is in
+      let before = runs_taken plan.script a.suits.is_plan.rising old.course.done s here in
+      let all : plan.users ≡ f.launched ++ [] = f.users ∙ ap (λ (us : List UserState). f.launched ++ reverse us) none in
+      let few : length plan.users ≡ length f.launched = ap length (all ∙ append-nil f.launched) in
+      let count = f.count in
+      less_not (runs_before s.line plan.script) (length plan.users) image (omega (arith, few, count, before))
+    where
+      less_not : (a b : ℕ) → nat_lt a b ≡ true → b ≤ a → ⊥
+      less_not a b e h = grind (arith, nat_tests, e, h)
 
   abbrev launched_node : Node → HomeState → List code_context.Context → Course → Node
   launched_node old d h c = record old { deputies = d; hosted = h; course = c }

@@ -50,6 +50,44 @@ picked_ready last kind r e = first (or_taken (taken_at (kind_after last) r) _ ki
     first (inl f) = taken_ready r _ kind f
     first (inr f) = second (or_taken (taken_at (kind_after (kind_after last)) r) _ kind f)
 
+-- a context runs on only where no half is due since sixteen quanta
+taken_early : (r : Ready) (k : Kind) → taken_at k r ≡ Some Context → r.late ≡ false
+taken_early r Retry e = if_other r.retry Retry e
+  where
+    if_other : (b : Bool) (k : Kind) → if_ready b Retry ≡ Some Context → r.late ≡ false
+    if_other true k f = absurd cc
+    if_other false k f = absurd cc
+taken_early r Context e = go r.late refl e
+  where
+    go : (b : Bool) → r.late ≡ b → cond b (Some Half) (if_ready (is_some r.context) Context) ≡ Some Context → r.late ≡ false
+    go true l f = absurd cc
+    go false l f = l
+taken_early r Line e = if_other r.line e
+  where
+    if_other : (b : Bool) → if_ready b Line ≡ Some Context → r.late ≡ false
+    if_other true f = absurd cc
+    if_other false f = absurd cc
+taken_early r Half e = if_other r.half e
+  where
+    if_other : (b : Bool) → if_ready b Half ≡ Some Context → r.late ≡ false
+    if_other true f = absurd cc
+    if_other false f = absurd cc
+
+pub picked_early : (last : Kind) (r : Ready) → picked last r ≡ Some Context → r.late ≡ false
+picked_early last r e = first (or_taken (taken_at (kind_after last) r) _ Context e)
+  where
+    third : (taken_at (kind_after (kind_after (kind_after last))) r ≡ Some Context) ⊎ (taken_at (kind_after (kind_after (kind_after (kind_after last)))) r ≡ Some Context) → r.late ≡ false
+    third (inl f) = taken_early r _ f
+    third (inr f) = taken_early r _ f
+
+    second : (taken_at (kind_after (kind_after last)) r ≡ Some Context) ⊎ (or_else (taken_at (kind_after (kind_after (kind_after last))) r) (taken_at (kind_after (kind_after (kind_after (kind_after last)))) r) ≡ Some Context) → r.late ≡ false
+    second (inl f) = taken_early r _ f
+    second (inr f) = third (or_taken (taken_at (kind_after (kind_after (kind_after last))) r) _ Context f)
+
+    first : (taken_at (kind_after last) r ≡ Some Context) ⊎ (or_else (taken_at (kind_after (kind_after last)) r) (or_else (taken_at (kind_after (kind_after (kind_after last))) r) (taken_at (kind_after (kind_after (kind_after (kind_after last)))) r)) ≡ Some Context) → r.late ≡ false
+    first (inl f) = taken_early r _ f
+    first (inr f) = second (or_taken (taken_at (kind_after (kind_after last)) r) _ Context f)
+
 -- nothing has anything to do
 pub record NoneReady (r : Ready) : Type 0 where
   pub retry : r.retry ≡ false

@@ -20,7 +20,8 @@ use Rattle.node_machine.specs.Machine.{Policy, machine}
 use Rattle.node_core.specs.declared.node.Node.{Node}
 use Rattle.node_core.specs.Letters.{posted_by}
 use Rattle.node_core.specs.Locals.{local, slot_of, post_of, post_at, note_of}
-use Rattle.node_core.specs.Suits.{SuitsAt, Suits}
+use Rattle.node_core.specs.Suits.{SuitsAt, Suits, contexts_below}
+use Rattle.node_core.proofs.Growing.{one_more_context}
 use Rattle.node_core.specs.Turns.{Made, one_more, strange_after, is_strange, recorded_in, skipped_in, settled_in}
 
 abbrev pub at_clock : ℕ → Node → Node
@@ -62,8 +63,8 @@ module _ (policy : Policy) (plan : Plan) where
     Fits : Acts stamp (Some (letter (machine policy plan) from id sent (note_of policy plan message))) acted old mid → (Unfit (machine policy plan) id from (local policy plan old) (note_of policy plan message) → ⊥) → Hears stamp id from sent message acted old mid
     Misfits : acted.what ≡ what.Strange → Unfit (machine policy plan) id from (local policy plan old) (note_of policy plan message) → mid ≡ old → Hears stamp id from sent message acted old mid
 
-  suits_recorded : (old mid : Node) (stamp : ℕ) (acted : Acted) → SuitsAt plan (length old.journal.events + 1) (at_clock stamp (moved old mid)) → Suits plan (recorded_in stamp acted (moved old mid))
-  suits_recorded old mid stamp acted s =
+  suits_recorded : (old mid : Node) (stamp : ℕ) (acted : Acted) → SuitsAt plan (length old.journal.events + 1) (at_clock stamp (moved old mid)) → ((k : ℕ) → contexts_below k mid.hosted ≤ length old.journal.events + 1) → Suits plan (recorded_in stamp acted (moved old mid))
+  suits_recorded old mid stamp acted s few =
       let e : Event = record { stamp = stamp; node = old.id; what = acted.what } in
       let count : length old.journal.events + 1 ≡ length (old.journal.events ++ e ∷ []) = sym (length-append old.journal.events (e ∷ [])) in
       let t : SuitsAt plan (length (old.journal.events ++ e ∷ [])) (at_clock stamp (moved old mid)) = subst (λ (k : ℕ). SuitsAt plan k (at_clock stamp (moved old mid))) count s in
@@ -75,6 +76,7 @@ module _ (policy : Policy) (plan : Plan) where
         within = record { clock = t.within.clock; served = t.within.served; sent = t.within.sent; steps = t.within.steps };
         course = t.course;
         chance = t.chance;
+        few = λ k. let f = few k in omega (arith, f, count);
       }
 
   -- an event that is written down
@@ -98,7 +100,7 @@ module _ (policy : Policy) (plan : Plan) where
         strange = sym (strange_usual deed old.strange acts.usual);
         id = refl;
         shape = refl;
-        suits = suits_recorded old mid stamp acted acts.suits;
+        suits = suits_recorded old mid stamp acted acts.suits (λ k. let more = one_more_context policy plan old (at_clock stamp (moved old mid)) deed _ acts.does k in let few = suits.few k in omega (arith, more, few));
       })
 
   pub suits_skipped : (old : Node) (clock count : ℕ) → clock ≤ stamp_end + length old.journal.events → Suits plan old → Suits plan (record old { clock = clock; strange = count })
@@ -110,6 +112,7 @@ module _ (policy : Policy) (plan : Plan) where
     within = record { clock = most; served = t.within.served; sent = t.within.sent; steps = t.within.steps };
     course = t.course;
     chance = t.chance;
+    few = t.few;
   }
 
   -- a letter that did not fit

@@ -11,7 +11,7 @@ use Rattle.deputy.specs.Rows.{served_of}
 use Rattle.node_machine.specs.Plan.{Plan}
 use Rattle.node_core.specs.declared.shape.Shape.{Shape}
 use Rattle.node_core.specs.declared.node.Node.{Node}
-use Rattle.node_core.specs.Suits.{Suits}
+use Rattle.node_core.specs.Suits.{Suits, contexts_below}
 use Rattle.node_core.specs.Making.{new_node, Beginning}
 
 none_at : (q : ℕ) → at_pid {A = Row} [] q ≡ None
@@ -20,6 +20,10 @@ none_at (suc i) = refl
 
 served_none : (q : ℕ) → served_of (at_pid [] q) ≤ 0
 served_none q = let e : served_of (at_pid [] q) ≡ 0 = ap served_of (none_at q) in omega (arith, e)
+
+none_below : (k : ℕ) → contexts_below k [] ≤ 0
+none_below zero = omega arith
+none_below (suc k) = let less = none_below k in omega (arith, less)
 
 pub new_suits : (plan : Plan) (id : ℕ) (shape : Shape) (script : List ScriptLine) (users : List UserState) → Beginning plan id shape script users → Suits plan (new_node id shape script users)
 new_suits plan id shape script users b = record {
@@ -30,6 +34,7 @@ new_suits plan id shape script users b = record {
   within = record { clock = omega arith; served = served_none; sent = omega arith; steps = omega arith };
   course = λ home. record { script = b.script_is home; done = omega arith; next = λ s e. omega arith; launched = []; users = sym (b.users_is home) ∙ sym (reverse-reverse users); count = refl };
   chance = λ k. let zero_off : 0 - (plan.nodes - 1) + k ≡ k = omega arith in ap (plan.word id) zero_off ∙ b.words k;
+  few = none_below;
 }
 
 pub new_suits_of : (plan : Plan) (id : ℕ) (shape : Shape) (script : List ScriptLine) (users : List UserState) (n : Node) → n ≡ new_node id shape script users → Beginning plan id shape script users → Suits plan n
@@ -50,4 +55,5 @@ suits_out plan n outbox s = record {
   within = record { clock = s.within.clock; served = s.within.served; sent = s.within.sent; steps = s.within.steps };
   course = s.course;
   chance = s.chance;
+  few = s.few;
 }

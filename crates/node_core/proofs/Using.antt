@@ -32,7 +32,7 @@ Kept = fin_map.FinMap nat_cmp ℕ
 
 -- ---- sums
 
-sum_words : (n : ℕ) (f : ℕ → ℕ) → sum_to n f ≡ sum_below n f
+pub sum_words : (n : ℕ) (f : ℕ → ℕ) → sum_to n f ≡ sum_below n f
 sum_words zero f = refl
 sum_words (suc n) f = ap (λ (k : ℕ). k + f n) (sum_words n f)
 
@@ -44,7 +44,7 @@ sum_zero : (n : ℕ) → sum_below n (λ q. 0) ≡ 0
 sum_zero zero = refl
 sum_zero (suc n) = let h = sum_zero n in omega (arith, h)
 
-sum_same : (n : ℕ) (f g : ℕ → ℕ) → ((q : ℕ) → q < n → f q ≡ g q) → sum_below n f ≡ sum_below n g
+pub sum_same : (n : ℕ) (f g : ℕ → ℕ) → ((q : ℕ) → q < n → f q ≡ g q) → sum_below n f ≡ sum_below n g
 sum_same zero f g h = refl
 sum_same (suc n) f g h = let a = sum_same n f g (λ q lt. h q (omega arith)) in let b = h n (omega arith) in omega (arith, a, b)
 
@@ -127,7 +127,7 @@ length_sum (e ∷ es) = let h = length_sum es in let s = sum_by-cons (λ (x : �
 
 -- ---- bounds that no pid reaches
 
-past_contexts : (cs : List code_context.Context) → (n : ℕ) × ((q : ℕ) → n ≤ q → lookup q cs ≡ None)
+pub past_contexts : (cs : List code_context.Context) → (n : ℕ) × ((q : ℕ) → n ≤ q → lookup q cs ≡ None)
 past_contexts [] = (0, λ q le. refl)
 past_contexts (c ∷ cs) = go (past_contexts cs)
   where

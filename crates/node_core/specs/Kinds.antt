@@ -1,5 +1,5 @@
 -- What a node makes of a message or of a kind of turn, in the words of its parts.
-use Rattle.std.specs.Prelude.{◌≡◌, ◌≢◌, ◌<◌, ◌+◌, ◌-◌, ◌^◌, ℕ, max, min, is_some, slice_get, nat_lt, nat_le, ◌&&◌, ◌||◌, ◌==◌, not, ◌⊎◌, Bool, true, false, Option, Some, None, List, [], ◌∷◌, ◌++◌, length, MatchOption}
+use Rattle.std.specs.Prelude.{◌≡◌, ◌+◌, ◌-◌, ◌^◌, ℕ, max, min, is_some, is_none, slice_get, nat_lt, nat_le, ◌&&◌, ◌||◌, ◌==◌, not, ◌⊎◌, Bool, true, false, Option, Some, None, List, [], ◌∷◌, ◌++◌, length, MatchOption}
 use Rattle.call_forward.specs.declared.acted.Acted.{Acted}
 use Rattle.call_forward.specs.declared.message.Message.{Message}
 use Rattle.call_forward.specs.declared.message.Message.TheVariants as message
@@ -25,7 +25,7 @@ use Rattle.migrate_proto.specs.Moves.{go_answer}
 use Rattle.remote_ctx.specs.Hosted.{lookup, runs_at, state_of, pages_of, IsNext, NonePasses, Puts, Changes}
 use Rattle.remote_ctx.specs.Acting.{StepsOn, fresh, asking, keeping, holds_for, has_kept, Sends, Heeds, PokedOn, Gets, poked_as, child_in}
 use Rattle.deputy.specs.declared.row.HeldCall.{HeldCall}
-use Rattle.deputy.specs.Rows.{held_at, served_at}
+use Rattle.deputy.specs.Rows.{HomeState, held_at, served_at}
 use Rattle.deputy.specs.Calls.{Turned, called_in, paused_in, retried_in, next_ready}
 use Rattle.deputy.specs.Rules.{CanWait}
 use Rattle.user_spec.specs.User.{UserState}
@@ -35,6 +35,8 @@ use Rattle.node_core.specs.declared.lines.Task.{Task}
 use Rattle.node_core.specs.declared.lines.Task.TheVariants as task
 use Rattle.node_core.specs.declared.talk.Talk.{Talk}
 use Rattle.node_core.specs.declared.node.Node.{Node}
+use Rattle.node_core.specs.Sight.{Answerer, AreCounted}
+use Rattle.node_core.specs.Halves.{has_others, is_late, is_half_due, SendsHalf, HearsHalf}
 pub use Rattle.node_core.specs.Parts.{OnHome, OnHosted, IsStrange, is_stray_pid, is_stray, Says}
 use Rattle.node_core.specs.Moves.{HearsAsk, HearsAllow, HearsDeny, HearsMove, HearsLanded}
 
@@ -78,46 +80,38 @@ GoActs answer.Missed pid to hops line acted old mid = Says (missed pid to hops l
 abbrev pub answer_at : Node → ℕ → ℕ → GoAnswer
 answer_at n pid to = go_answer (option_map state_of (lookup pid n.hosted)) (holds_for has_kept (lookup pid n.hosted)) n.id to
 
--- what a node makes of a message that is in its place
-abbrev pub HearsHere : ℕ → Message → Acted → Node → Node → Type 0
-HearsHere from (message.Call pid request) acted old mid = (length old.deputies.rows ≡ given old.deputies.kernel) × OnHome (called_in old.deputies from pid request) acted old mid
-HearsHere from (message.Pause pid room) acted old mid = OnHome (paused_in old.deputies from pid room) acted old mid
-HearsHere from (message.Reply pid done) acted old mid = HearsReply pid done acted old mid
-HearsHere from (message.Poke pid) acted old mid = OnHosted (PokedOn acted pid) old mid
-HearsHere from (message.Go pid to hops line) acted old mid = GoActs (answer_at old pid to) pid to hops line acted old mid
-HearsHere from (message.NotHere pid to hops line) acted old mid = OnHome (missed_in old.deputies pid to hops line) acted old mid
-HearsHere from (message.NoMove line) acted old mid = Says (closed_acted line) acted old mid
-HearsHere from (message.Ask pid need) acted old mid = HearsAsk from pid need acted old mid
-HearsHere from (message.Allow pid) acted old mid = HearsAllow from pid acted old mid
-HearsHere from (message.Deny pid need free) acted old mid = HearsDeny from pid need free acted old mid
-HearsHere from (message.Move pid user hops line) acted old mid = HearsMove from pid user hops line acted old mid
-HearsHere from (message.Landed pid source hops line) acted old mid = HearsLanded from pid source hops line acted old mid
-HearsHere from (message.Half places) acted old mid = (from ≡ old.id) × IsStrange acted old mid
-
--- what a node does not hear yet: halves of vectors that come from another node
-abbrev pub IsUnbuilt : ℕ → ℕ → Message → Type 0
-IsUnbuilt id from (message.Half places) = from ≢ id
-IsUnbuilt id from _ = ⊥
-
--- then nothing changes
-pub record IsLeft (from : ℕ) (m : Message) (old mid : Node) : Type 0 where
-  pub unbuilt : IsUnbuilt old.id from m
-  pub near : from < old.shape.nodes
-  pub same : mid ≡ old
-
--- None: that kind of message is not built yet
-abbrev pub HearsSome : ℕ → Message → Option Acted → Node → Node → Type 0
-HearsSome from m None old mid = IsUnbuilt old.id from m × (mid ≡ old)
-HearsSome from m (Some acted) old mid = HearsHere from m acted old mid
+-- what a node makes of a message that is in its place, with an event of this stamp; a half from the node itself does not fit
+abbrev pub HearsHere : Answerer → ℕ → ℕ → Message → Acted → Node → Node → Type 0
+HearsHere answers stamp from (message.Call pid request) acted old mid = (length old.deputies.rows ≡ given old.deputies.kernel) × OnHome (called_in old.deputies from pid request) acted old mid
+HearsHere answers stamp from (message.Pause pid room) acted old mid = OnHome (paused_in old.deputies from pid room) acted old mid
+HearsHere answers stamp from (message.Reply pid done) acted old mid = HearsReply pid done acted old mid
+HearsHere answers stamp from (message.Poke pid) acted old mid = OnHosted (PokedOn acted pid) old mid
+HearsHere answers stamp from (message.Go pid to hops line) acted old mid = GoActs (answer_at old pid to) pid to hops line acted old mid
+HearsHere answers stamp from (message.NotHere pid to hops line) acted old mid = OnHome (missed_in old.deputies pid to hops line) acted old mid
+HearsHere answers stamp from (message.NoMove line) acted old mid = Says (closed_acted line) acted old mid
+HearsHere answers stamp from (message.Ask pid need) acted old mid = HearsAsk from pid need acted old mid
+HearsHere answers stamp from (message.Allow pid) acted old mid = HearsAllow from pid acted old mid
+HearsHere answers stamp from (message.Deny pid need free) acted old mid = HearsDeny from pid need free acted old mid
+HearsHere answers stamp from (message.Move pid user hops line) acted old mid = HearsMove from pid user hops line acted old mid
+HearsHere answers stamp from (message.Landed pid source hops line) acted old mid = HearsLanded from pid source hops line acted old mid
+HearsHere answers stamp from (message.Half places) acted old mid = MatchBool (from == old.id) (IsStrange acted old mid) (HearsHalf answers stamp from places acted old mid)
 
 -- ---- a call that was held
 
--- the lowest of those that can go on is served
+-- each of them is a call of a live process
+abbrev pub CallsWait : HomeState → Type 0
+CallsWait home = (pid : ℕ) (call : HeldCall) → held_at home.rows pid ≡ Some call → CanWait home.kernel pid call.request
+
+-- the lowest of those that can go on is served, and nothing changes where none can
 pub record Retries (acted : Acted) (old mid : Node) : Type 0 where
   pub each : length old.deputies.rows ≡ given old.deputies.kernel
-  pub held : (pid : ℕ) (call : HeldCall) → held_at old.deputies.rows pid ≡ Some call → CanWait old.deputies.kernel pid call.request
+  pub held : CallsWait old.deputies
   pub is : retried_in old.deputies ≡ record { home = mid.deputies; acted = Some acted }
   pub rest : mid ≡ record old { deputies = mid.deputies }
+
+abbrev pub RetriesSome : Option Acted → Node → Node → Type 0
+RetriesSome None old mid = (next_ready old.deputies ≡ None) × (mid ≡ old)
+RetriesSome (Some acted) old mid = Retries acted old mid
 
 -- ---- the next line
 
@@ -182,10 +176,12 @@ EndsInput line acted old mid = Passes line (record { home = record old.deputies 
 -- whether each kind of turn has something to do
 pub record IsReady (n : Node) (ready : Ready) : Type 0 where
   pub retry : ready.retry ≡ ((n.id == 0) && is_some (next_ready n.deputies))
+  pub waits : ready.retry ≡ true → CallsWait n.deputies
   pub context : MatchOption ready.context (NonePasses (λ q. runs_at q n.hosted)) (IsNext (λ q. runs_at q n.hosted) n.rotation.after)
   pub line : ready.line ≡ ((n.id == 0) && line_enabled (slice_get n.course.script n.course.done) n)
-  pub half : ready.half ≡ false
-  pub late : ready.late ≡ false
+  pub half : ready.half ≡ is_half_due (is_none ready.context) n
+  pub late : ready.late ≡ (has_others n && is_late n)
+  pub counted : AreCounted n.hosted
 
 -- ---- a context's turn
 
@@ -233,8 +229,17 @@ abbrev pub TaskActs : Option (ℕ × Task) → Acted → Node → Node → Type 
 TaskActs None acted old mid = ⊥
 TaskActs (Some next) acted old mid = LineActs next.0 next.1 acted old mid
 
+-- the next line cannot be carried out: it launches a process, and there is no room for one, or no context of a `run` line is left; or there is no next line
+abbrev pub LineFails : Task → Node → Type 0
+LineFails task.Launch n = (has_room n.deputies.kernel ≡ false) ⊎ (n.course.users ≡ [])
+LineFails _ n = ⊥
+
+abbrev pub TaskFails : Option (ℕ × Task) → Node → Type 0
+TaskFails None n = Unit {0}
+TaskFails (Some next) n = LineFails next.1 n
+
 abbrev pub TasksSome : Option (ℕ × Task) → Option Acted → Node → Node → Type 0
-TasksSome next None old mid = Unit {0}
+TasksSome next None old mid = TaskFails next old × (mid ≡ old)
 TasksSome next (Some acted) old mid = TaskActs next acted old mid
 
 abbrev pub RunsContext : Option ℕ → Acted → Node → Node → Type 0
@@ -242,16 +247,22 @@ RunsContext None acted old mid = ⊥
 RunsContext (Some pid) acted old mid = ContextActs pid acted old mid
 
 abbrev pub RunsSome : Option ℕ → Option Acted → Node → Node → Type 0
-RunsSome pid None old mid = Unit {0}
+RunsSome pid None old mid = (pid ≡ None) × (mid ≡ old)
 RunsSome pid (Some acted) old mid = RunsContext pid acted old mid
 
-abbrev pub CarriesOut : Kind → Option ℕ → Acted → Node → Node → Type 0
-CarriesOut Retry context acted old mid = Retries acted old mid
-CarriesOut Context context acted old mid = RunsContext context acted old mid
-CarriesOut Line context acted old mid = TaskActs (task_at (slice_get old.course.script old.course.done)) acted old mid
-CarriesOut Half context acted old mid = ⊥
+abbrev pub CarriesOut : Answerer → ℕ → Kind → Option ℕ → Acted → Node → Node → Type 0
+CarriesOut answers stamp Retry context acted old mid = Retries acted old mid
+CarriesOut answers stamp Context context acted old mid = RunsContext context acted old mid
+CarriesOut answers stamp Line context acted old mid = TaskActs (task_at (slice_get old.course.script old.course.done)) acted old mid
+CarriesOut answers stamp Half context acted old mid = SendsHalf answers stamp acted old mid
 
--- None: that kind of turn is not built yet
-abbrev pub CarriesSome : Kind → Option ℕ → Option Acted → Node → Node → Type 0
-CarriesSome kind context None old mid = Unit {0}
-CarriesSome kind context (Some acted) old mid = CarriesOut kind context acted old mid
+-- nothing of this kind can be carried out
+abbrev pub KindFails : Kind → Option ℕ → Node → Type 0
+KindFails Retry context n = next_ready n.deputies ≡ None
+KindFails Context context n = context ≡ None
+KindFails Line context n = TaskFails (task_at (slice_get n.course.script n.course.done)) n
+KindFails Half context n = ⊥
+
+abbrev pub CarriesSome : Answerer → ℕ → Kind → Option ℕ → Option Acted → Node → Node → Type 0
+CarriesSome answers stamp kind context None old mid = KindFails kind context old × (mid ≡ old)
+CarriesSome answers stamp kind context (Some acted) old mid = CarriesOut answers stamp kind context acted old mid

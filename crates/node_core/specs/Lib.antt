@@ -4,6 +4,8 @@ pub mod Suits
 pub mod Rotation
 pub mod Making
 pub mod Turns
+pub mod Sight
+pub mod Halves
 pub mod Parts
 pub mod Moves
 pub mod Kinds

@@ -4,6 +4,8 @@ use Rattle.rand_pcg.specs.Lcg.{Lcg}
 use Rattle.rand_pcg.specs.Pcg.{pcg32}
 use Rattle.node_event.specs.declared.script.ScriptLine.{ScriptLine}
 use Rattle.user_spec.specs.User.{UserState}
+use Rattle.remote_ctx.specs.declared.context.Context as code_context
+use Rattle.remote_ctx.specs.Hosted.{lookup, sum_to, counts}
 use Rattle.deputy.specs.Rows.{served_at}
 use Rattle.protocol.specs.Odd.{stamp_end}
 use Rattle.node_machine.specs.Plan.{Plan, IsPlan, run_count}
@@ -41,7 +43,7 @@ pub record IsWithin (events : ℕ) (n : Node) : Type 0 where
   pub sent : n.talk.sent ≤ events
   pub steps : n.talk.steps ≤ events
 
--- a node of the plan's cluster that has made so many events
+-- what of a node holds with so many events
 pub record SuitsAt (plan : Plan) (events : ℕ) (n : Node) : Type 0 where
   pub is_plan : IsPlan plan
   pub below : n.id < plan.nodes
@@ -52,5 +54,17 @@ pub record SuitsAt (plan : Plan) (events : ℕ) (n : Node) : Type 0 where
   -- the words of chance to come are the plan's, of which a node draws one for each half after its first round
   pub chance : (k : ℕ) → plan.word n.id (n.talk.sent - (plan.nodes - 1) + k) ≡ word_after k n.talk.chance
 
-abbrev pub Suits : Plan → Node → Type 0
-Suits plan n = SuitsAt plan (length n.journal.events) n
+-- the contexts of the pids below k
+abbrev pub contexts_below : ℕ → List code_context.Context → ℕ
+contexts_below k contexts = sum_to k (λ q. counts (λ _. 1) (lookup q contexts))
+
+-- a node of the plan's cluster between its turns: as above, and each of its contexts came with an event
+pub record Suits (plan : Plan) (n : Node) : Type 0 where
+  pub is_plan : IsPlan plan
+  pub below : n.id < plan.nodes
+  pub shape : HasShape plan n.shape
+  pub room : n.journal.room ≡ n.shape.journal
+  pub within : IsWithin (length n.journal.events) n
+  pub course : n.id ≡ 0 → Follows plan n.course
+  pub chance : (k : ℕ) → plan.word n.id (n.talk.sent - (plan.nodes - 1) + k) ≡ word_after k n.talk.chance
+  pub few : (k : ℕ) → contexts_below k n.hosted ≤ length n.journal.events

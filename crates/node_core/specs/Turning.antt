@@ -1,5 +1,5 @@
 -- A turn of a node in the words of its parts.
-use Rattle.std.specs.Prelude.{◌≡◌, ◌≢◌, ◌+◌, ◌-◌, ◌<◌, ◌≤◌, ◌^◌, ◌⊎◌, ℕ, max, nat_le, ◌||◌, Bool, true, false, Option, Some, None, length}
+use Rattle.std.specs.Prelude.{◌≡◌, ◌+◌, ◌-◌, ◌<◌, ◌≤◌, ◌^◌, ◌⊎◌, ℕ, max, nat_le, ◌||◌, ◌==◌, Bool, true, false, Option, Some, None, length}
 use Rattle.std.specs.Bool.{MatchBool}
 use Rattle.call_forward.specs.declared.acted.Acted.{Acted}
 use Rattle.call_forward.specs.declared.letter.Letter.{Letter}
@@ -9,13 +9,13 @@ use Rattle.kernel_spec.specs.Kernel.{is_live}
 use Rattle.protocol.specs.Odd.{stamp_end, hops_end}
 use Rattle.node_core.specs.declared.node.Node.{Node}
 use Rattle.node_core.specs.declared.rotation.Kind.{Kind}
-use Rattle.node_core.specs.declared.rotation.Kind.TheVariants.{Retry}
 use Rattle.node_core.specs.declared.rotation.Ready.{Ready}
 use Rattle.node_core.specs.declared.turn.Turned.{Turned}
-use Rattle.node_core.specs.declared.turn.Turned.TheVariants.{Did, Idle, Finished, JournalFull, NotBuilt}
+use Rattle.node_core.specs.declared.turn.Turned.TheVariants.{Did, Idle, Finished, JournalFull}
 use Rattle.node_core.specs.Rotation.{picked, rotated}
+use Rattle.node_core.specs.Sight.{Answerer}
 use Rattle.node_core.specs.Turns.{one_more, settled_in}
-use Rattle.node_core.specs.Kinds.{IsLeft, is_misplaced, IsStrange, HearsHere, IsReady, CarriesOut}
+use Rattle.node_core.specs.Kinds.{is_misplaced, IsStrange, HearsHere, IsReady, CarriesOut, KindFails}
 
 -- ---- a letter
 
@@ -31,23 +31,18 @@ is_odd n l = nat_le stamp_end l.stamp || (nat_le n.shape.nodes l.to || has_many_
 abbrev pub IsStamp : ℕ → ℕ → ℕ → Type 0
 IsStamp clock sent stamp = max clock sent < 2 ^ 64 - 1 → stamp ≡ max clock sent + 1
 
-abbrev pub HearsAny : ℕ → Message → Acted → Node → Node → Type 0
-HearsAny from m acted old mid = MatchBool (is_misplaced old from m) (IsStrange acted old mid) (HearsHere from m acted old mid)
-
--- None: that kind of message is not built yet
-abbrev pub HearsAnySome : ℕ → Message → Option Acted → Node → Node → Type 0
-HearsAnySome from m None old mid = IsLeft from m old mid
-HearsAnySome from m (Some acted) old mid = HearsAny from m acted old mid
+abbrev pub HearsAny : Answerer → ℕ → ℕ → Message → Acted → Node → Node → Type 0
+HearsAny answers stamp from m acted old mid = MatchBool (is_misplaced old from m) (IsStrange acted old mid) (HearsHere answers stamp from m acted old mid)
 
 -- the node made something of it
-pub record Heard (letter : Letter) (old new : Node) : Type 0 where
+pub record Heard (answers : Answerer) (letter : Letter) (old new : Node) : Type 0 where
   pub usual : is_odd old letter ≡ false
   pub space : length old.journal.events < old.journal.room
   pub stamp : ℕ
   pub stamp_is : IsStamp old.clock letter.stamp stamp
   pub acted : Acted
   pub mid : Node
-  pub hears : HearsAny letter.from letter.message acted old mid
+  pub hears : HearsAny answers stamp letter.from letter.message acted old mid
   pub settled : new ≡ settled_in stamp acted mid
 
 -- or counted it as odd
@@ -55,10 +50,9 @@ pub record Passed (letter : Letter) (old new : Node) : Type 0 where
   pub odd : is_odd old letter ≡ true
   pub is : new ≡ record old { strange = one_more old.strange }
 
-abbrev pub TookLetter : Turned → Letter → Node → Node → Type 0
-TookLetter Did letter old new = Heard letter old new ⊎ Passed letter old new
-TookLetter NotBuilt letter old new = IsLeft letter.from letter.message old new
-TookLetter _ letter old new = ⊥
+abbrev pub TookLetter : Answerer → Turned → Letter → Node → Node → Type 0
+TookLetter answers Did letter old new = Heard answers letter old new ⊎ Passed letter old new
+TookLetter answers _ letter old new = ⊥
 
 -- ---- no letter
 
@@ -78,10 +72,10 @@ pub record Picks (kind : Option Kind) (n : Node) : Type 0 where
   pub ready : Ready
   pub is : IsReady n ready
   pub picked : picked n.rotation.last ready ≡ kind
-  pub alone : n.shape.nodes ≤ 1
+  pub most : length n.journal.events ≤ n.journal.room
 
 -- a kind of turn was carried out
-pub record Went (old new : Node) : Type 0 where
+pub record Went (answers : Answerer) (old new : Node) : Type 0 where
   pub kind : Kind
   pub picks : Picks (Some kind) old
   pub space : length old.journal.events < old.journal.room
@@ -89,18 +83,17 @@ pub record Went (old new : Node) : Type 0 where
   pub stamp_is : IsStamp old.clock 0 stamp
   pub acted : Acted
   pub mid : Node
-  pub carries : CarriesOut kind picks.ready.context acted old mid
+  pub carries : CarriesOut answers stamp kind picks.ready.context acted old mid
   pub settled : new ≡ settled_in stamp acted (record mid { rotation = rotated old.rotation kind picks.ready.context })
 
-abbrev pub WentOn : Turned → Node → Node → Type 0
-WentOn Did old new = Went old new
-WentOn Idle old new = Picks None old × (IsDone old → ⊥) × (new ≡ old)
-WentOn Finished old new = Picks None old × IsDone old × (new ≡ old)
-WentOn JournalFull old new = ((kind : Kind) × (kind ≢ Retry) × Picks (Some kind) old) × (length old.journal.events ≡ old.journal.room) × (new ≡ old)
-WentOn NotBuilt old new = Unit {0}
+-- the kind that is taken cannot be carried out. A node that suits a plan never comes to this
+pub record Lacks (n : Node) : Type 0 where
+  pub kind : Kind
+  pub picks : Picks (Some kind) n
+  pub fails : KindFails kind picks.ready.context n
 
-abbrev pub FullAt : Kind → Turned → Type 0
-FullAt Retry NotBuilt = Unit {0}
-FullAt Retry _ = ⊥
-FullAt kind JournalFull = kind ≢ Retry
-FullAt kind _ = ⊥
+abbrev pub WentOn : Answerer → Turned → Node → Node → Type 0
+WentOn answers Did old new = Went answers old new
+WentOn answers Idle old new = (Picks None old × (IsDone old → ⊥) × (new ≡ old)) ⊎ Lacks old
+WentOn answers Finished old new = Picks None old × IsDone old × (new ≡ old)
+WentOn answers JournalFull old new = ((kind : Kind) × Picks (Some kind) old) × (length old.journal.events ≡ old.journal.room) × (new ≡ old)

@@ -15,11 +15,10 @@ use Rattle.node_machine.specs.Plan.{Plan}
 use Rattle.node_machine.specs.Machine.{Policy, machine}
 use Rattle.node_core.specs.declared.node.Node.{Node}
 use Rattle.node_core.specs.declared.turn.Turned.{Turned}
-use Rattle.node_core.specs.declared.turn.Turned.TheVariants.{Did, Idle, Finished, JournalFull, NotBuilt}
+use Rattle.node_core.specs.declared.turn.Turned.TheVariants.{Did, Idle, Finished, JournalFull}
 use Rattle.node_core.specs.Letters.{posted_by}
 use Rattle.node_core.specs.Locals.{local, post_of, post_at}
 use Rattle.node_core.specs.Suits.{Suits}
-use Rattle.node_core.specs.Kinds.{IsLeft}
 
 -- the count of strange letters stays at its end
 abbrev pub one_more : ℕ → ℕ
@@ -75,7 +74,6 @@ module _ (policy : Policy) (plan : Plan) where
   Answers Idle inbox old new = Rested inbox old new
   Answers Finished inbox old new = HasFinished inbox old new
   Answers JournalFull inbox old new = IsFull inbox old new
-  Answers NotBuilt inbox old new = MatchOption inbox (Unit {0}) (λ l. IsLeft l.from l.message old new)
 
 -- whatever cluster the node is one of
 abbrev pub TurnsAs : Policy → Turned → Option Letter → Node → Node → Type 0

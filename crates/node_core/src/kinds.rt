@@ -4,22 +4,27 @@ ghost use Rattle.std.specs.Bool.{MatchBool};
 ghost use Rattle.remote_ctx.specs.Hosted.{lookup, runs_at, IsNext, NonePasses};
 ghost use Rattle.remote_ctx.specs.Acting.{Heeds, Sends, poked_as};
 ghost use Rattle.deputy.specs.Calls.{next_ready};
-ghost use Rattle.node_core.specs.Kinds.{ContextActs, CarriesSome, IsReady, OnHosted, Retries, RunsSome, Steps, line_enabled};
+ghost use Rattle.node_core.specs.Kinds.{ContextActs, CallsWait, CarriesSome, IsReady, OnHosted, RetriesSome, RunsSome, Steps, line_enabled};
 
 use crate::node::Node;
 use crate::rotation::{Kind, Ready};
 use call_forward::{Acted, Mail};
 use call_table::NoMemory;
 use node_event::What;
+use policy_box::{Chooser, Policy};
 use remote_ctx::Ran;
 use std::alloc::Global;
 
 impl Node {
     /// Whether a held call can go on.
     fn retry_ready(&self) -> bool
-        ensures { result ≡ ((self.now.id == 0) && is_some (next_ready self.now.deputies)) }
+        ensures is { result ≡ ((self.now.id == 0) && is_some (next_ready self.now.deputies)) }
+        ensures waits { result ≡ true → CallsWait self.now.deputies }
     {
-        self.id == 0 && self.deputies.due()
+        if self.id != 0 {
+            return false;
+        }
+        self.deputies.due()
     }
 
     /// Which kinds of turn have something to do.
@@ -29,21 +34,26 @@ impl Node {
         let retry = self.retry_ready();
         let context = self.hosted.next(self.rotation.after);
         let line = self.line_ready();
+        let half = self.half_ready(context.is_none());
+        let late = self.late_half();
         Ready {
             retry,
             context,
             line,
-            half: false,
-            late: false,
+            half,
+            late,
         }
     }
 
-    /// A held call goes on. None where none can.
+    /// A held call goes on. None where none can, and then nothing changes.
+    #[tactic(auto, using(crate::proofs::Doing::none_retried))]
     fn retry(&mut self, alloc: Global) -> Result<Option<Acted>, NoMemory>
-        ensures { IfOk result (λ acted. MatchOption acted (Unit {0}) (λ a. Retries a self.old self.new)) }
+        ensures { IfOk result (λ acted. RetriesSome acted self.old self.new) }
     {
-        let acted = self.deputies.retry(alloc)?;
-        Ok(acted)
+        match self.deputies.retry(alloc)? {
+            None => Ok(None),
+            Some(acted) => Ok(Some(acted)),
+        }
     }
 
     /// A quantum of steps was made.
@@ -105,15 +115,18 @@ impl Node {
         }
     }
 
-    /// A turn of this kind. None where it is not built yet.
-    pub fn carry_out(
+    /// A turn of this kind, whose event has this stamp. None where there is nothing of the kind to do, and then nothing changes.
+    #[tactic(auto, using(crate::proofs::Doing::carried_retry, crate::proofs::Doing::carried_context, crate::proofs::Doing::carried_line))]
+    pub fn carry_out<C: Chooser>(
         &mut self,
         alloc: Global,
+        stamp: u64,
         kind: Kind,
         pid: Option<u32>,
+        policy: &Policy<C>,
     ) -> Result<Option<Acted>, NoMemory>
         requires { MatchOption pid (Unit {0}) (λ p. runs_at p self.old.hosted ≡ true) }
-        ensures { IfOk result (λ acted. CarriesSome kind pid acted self.old self.new) }
+        ensures { IfOk result (λ acted. CarriesSome (C.answers policy.now) stamp kind pid acted self.old self.new) }
     {
         match kind {
             Kind::Retry => {
@@ -128,7 +141,10 @@ impl Node {
                 let acted = self.next_line(alloc)?;
                 Ok(acted)
             }
-            Kind::Half => Ok(None),
+            Kind::Half => {
+                let acted = self.send_half(alloc, stamp, policy)?;
+                Ok(Some(acted))
+            }
         }
     }
 }

@@ -4,12 +4,14 @@ ghost use Rattle.std.specs.Bool.{MatchBool};
 ghost use Rattle.kernel_spec.specs.Kernel.{given};
 ghost use Rattle.remote_ctx.specs.Acting.{PokedOn, Gets, child_in};
 ghost use Rattle.deputy.specs.Calls.{called_in, paused_in};
-ghost use Rattle.node_core.specs.Kinds.{is_misplaced, is_stray, is_stray_pid, IsStrange, HearsSome, HearsReply, OnHome, OnHosted};
+ghost use Rattle.call_forward.specs.declared.message.Message.TheVariants as message;
+ghost use Rattle.node_core.specs.Kinds.{is_misplaced, is_stray, is_stray_pid, IsStrange, HearsHere, HearsReply, OnHome, OnHosted};
 
 use crate::node::Node;
 use call_forward::{Acted, Done, Mail, Message};
-use call_table::{NoMemory, Request};
+use call_table::{Entry, NoMemory, Request};
 use node_event::What;
+use policy_box::{Chooser, Policy};
 use remote_ctx::child_in;
 use std::alloc::Global;
 
@@ -90,31 +92,51 @@ impl Node {
         Ok(acted)
     }
 
-    /// What the node makes of a message that is in its place. None where the kind of message is not built yet.
-    pub fn hear(
+    /// A half comes. One from the node itself does not fit.
+    fn half_came<C: Chooser>(
         &mut self,
         alloc: Global,
         from: u8,
+        stamp: u64,
+        places: &[Option<Entry>; 4],
+        policy: &Policy<C>,
+    ) -> Result<Acted, NoMemory>
+        ensures { IfOk result (λ acted. HearsHere (C.answers policy.now) stamp from (message.Half places.now) acted self.old self.new) }
+    {
+        if from == self.id {
+            return Ok(strange(alloc));
+        }
+        let acted = self.hear_half(alloc, from, stamp, places, policy)?;
+        Ok(acted)
+    }
+
+    /// What the node makes of a message that is in its place, with an event of this stamp.
+    pub fn hear<C: Chooser>(
+        &mut self,
+        alloc: Global,
+        stamp: u64,
+        from: u8,
         message: Message,
-    ) -> Result<Option<Acted>, NoMemory>
-        ensures { IfOk result (λ acted. HearsSome from message acted self.old self.new) }
+        policy: &Policy<C>,
+    ) -> Result<Acted, NoMemory>
+        ensures { IfOk result (λ acted. HearsHere (C.answers policy.now) stamp from message acted self.old self.new) }
     {
         match message {
             Message::Call { pid, request } => {
                 let acted = self.called(alloc, from, pid, request)?;
-                Ok(Some(acted))
+                Ok(acted)
             }
             Message::Pause { pid, room } => {
                 let acted = self.paused(alloc, from, pid, room)?;
-                Ok(Some(acted))
+                Ok(acted)
             }
             Message::Reply { pid, done } => {
                 let acted = self.got(alloc, pid, done)?;
-                Ok(Some(acted))
+                Ok(acted)
             }
             Message::Poke { pid } => {
                 let acted = self.poked(alloc, pid);
-                Ok(Some(acted))
+                Ok(acted)
             }
             Message::Go {
                 pid,
@@ -123,7 +145,7 @@ impl Node {
                 line,
             } => {
                 let acted = self.order(alloc, pid, to, hops, line)?;
-                Ok(Some(acted))
+                Ok(acted)
             }
             Message::NotHere {
                 pid,
@@ -132,23 +154,23 @@ impl Node {
                 line,
             } => {
                 let acted = self.not_here(alloc, pid, to, hops, line)?;
-                Ok(Some(acted))
+                Ok(acted)
             }
             Message::NoMove { line } => {
                 let acted = self.close(alloc, line);
-                Ok(Some(acted))
+                Ok(acted)
             }
             Message::Ask { pid, need } => {
                 let acted = self.asked(alloc, from, pid, need)?;
-                Ok(Some(acted))
+                Ok(acted)
             }
             Message::Allow { pid } => {
                 let acted = self.allowed(alloc, from, pid)?;
-                Ok(Some(acted))
+                Ok(acted)
             }
             Message::Deny { pid, need, free } => {
                 let acted = self.denied(alloc, from, pid, need, free)?;
-                Ok(Some(acted))
+                Ok(acted)
             }
             Message::Move {
                 pid,
@@ -157,7 +179,7 @@ impl Node {
                 line,
             } => {
                 let acted = self.came(alloc, from, pid, user, hops, line)?;
-                Ok(Some(acted))
+                Ok(acted)
             }
             Message::Landed {
                 pid,
@@ -166,13 +188,11 @@ impl Node {
                 line,
             } => {
                 let acted = self.landed(alloc, from, pid, source, hops, line)?;
-                Ok(Some(acted))
+                Ok(acted)
             }
-            Message::Half { .. } => {
-                if from == self.id {
-                    return Ok(Some(strange(alloc)));
-                }
-                Ok(None)
+            Message::Half { places } => {
+                let acted = self.half_came(alloc, from, stamp, &places, policy)?;
+                Ok(acted)
             }
         }
     }

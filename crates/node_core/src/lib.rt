@@ -3,6 +3,7 @@
 
 mod asking;
 mod course;
+mod halves;
 mod kinds;
 mod landing;
 mod letters;
@@ -12,6 +13,7 @@ mod node;
 mod outbox;
 mod rotation;
 mod shape;
+mod sight;
 mod talk;
 #[cfg(test)]
 mod tests;

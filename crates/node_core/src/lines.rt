@@ -150,11 +150,14 @@ impl Node {
         }
     }
 
-    /// A process is launched, with the context of this line.
+    /// A process is launched, with the context of this line. None where that cannot be, and then nothing changes.
     fn launch(&mut self, alloc: Global, line: u32) -> Result<Option<Acted>, NoMemory>
         requires { self.old.course.done < length self.old.course.script }
-        ensures { IfOk result (λ acted. MatchOption acted (Unit {0}) (λ a. Launches line a self.old self.new)) }
+        ensures { IfOk result (λ acted. TasksSome (Some (line, Task.Launch)) acted self.old self.new) }
     {
+        if self.course.users.len() == 0 {
+            return Ok(None);
+        }
         let Some(pid) = self.deputies.launch()? else {
             return Ok(None);
         };
@@ -195,15 +198,15 @@ impl Node {
         Ok(acted)
     }
 
-    /// The next line's text is typed. None where that line has none.
-    fn feed(&mut self, alloc: Global) -> Result<Option<Acted>, NoMemory>
-        requires { self.old.course.done < length self.old.course.script }
+    /// The next line's text is typed.
+    fn feed(&mut self, alloc: Global, line: u32) -> Result<Option<Acted>, NoMemory>
+        requires within { self.old.course.done < length self.old.course.script }
+        requires feeds { task_at (slice_get self.old.course.script self.old.course.done) ≡ Some (line, Task.Feed) }
         ensures { IfOk result (λ acted. TasksSome (task_at (slice_get self.old.course.script self.old.course.done)) acted self.old self.new) }
     {
         let Some(next) = self.course.script.get(self.course.done) else {
             return Ok(None);
         };
-        let line = next.line;
         let Order::Feed { text } = &next.order else {
             return Ok(None);
         };
@@ -231,7 +234,7 @@ impl Node {
         passed(alloc, line)
     }
 
-    /// The next line is carried out. None where it is not built yet.
+    /// The next line is carried out. None where that cannot be, and then nothing changes.
     pub fn next_line(&mut self, alloc: Global) -> Result<Option<Acted>, NoMemory>
         ensures { IfOk result (λ acted. TasksSome (task_at (slice_get self.old.course.script self.old.course.done)) acted self.old self.new) }
     {
@@ -248,8 +251,8 @@ impl Node {
                 let acted = self.order_move(alloc, line, pid, to)?;
                 Ok(Some(acted))
             }
-            Some((_, Task::Feed)) => {
-                let acted = self.feed(alloc)?;
+            Some((line, Task::Feed)) => {
+                let acted = self.feed(alloc, line)?;
                 Ok(acted)
             }
             Some((line, Task::End)) => {

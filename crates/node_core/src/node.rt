@@ -101,7 +101,6 @@ impl Node {
     }
 
     /// Another node, before anything happened, of a cluster of this shape. It takes the memory for its journal.
-    #[tactic(auto, using(crate::proofs::Starting::new_suits_of))]
     pub fn away(alloc: Global, id: u8, shape: Shape) -> Result<Node, NoMemory>
         ensures new { IfOk result (λ node. node ≡ new_node id shape [] []) }
         ensures suits { IfOk result (λ node. (run : run_plan) → Beginning run id shape [] [] → Suits run node) }

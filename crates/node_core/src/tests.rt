@@ -207,3 +207,33 @@ fn moves(rt: HostRuntime) -> Result<(), Fail> {
     assert_eq!(rt; node.strange(), 1);
     Ok(())
 }
+
+/// A turn without a letter.
+fn go_on(alloc: Global, node: &mut Node) -> Result<Turned, NoMemory> {
+    let turned = node.turn(alloc, None, &never_policy())?;
+    Ok(turned)
+}
+
+/// The node that the next letter goes to, which is a half.
+fn half_to(rt: &impl Abort, node: &mut Node) -> u8 {
+    match node.next_out() {
+        Some(letter) => {
+            assert!(rt; matches!(letter.message, Message::Half { .. }));
+            letter.to
+        }
+        None => 9,
+    }
+}
+
+/// Each other node is sent a half, in order. Then a node that runs nothing and has nothing new to tell rests.
+#[test]
+fn first_halves(rt: HostRuntime) -> Result<(), Fail> {
+    let shape = Shape { nodes: 3, ..SHAPE };
+    let mut node = Node::away(rt.alloc(), 1, shape)?;
+    assert_eq!(rt; go_on(rt.alloc(), &mut node)?, Turned::Did);
+    assert_eq!(rt; go_on(rt.alloc(), &mut node)?, Turned::Did);
+    assert_eq!(rt; go_on(rt.alloc(), &mut node)?, Turned::Idle);
+    assert_eq!(rt; half_to(&rt, &mut node), 0);
+    assert_eq!(rt; half_to(&rt, &mut node), 2);
+    Ok(())
+}

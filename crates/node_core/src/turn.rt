@@ -1,15 +1,15 @@
 // One turn of a node.
-ghost use Rattle.std.specs.Prelude.{◌≡◌, ◌<◌, ◌+◌, ◌-◌, ◌^◌, ℕ, max, min, length, OnOk, IfOk, true, false};
+ghost use Rattle.std.specs.Prelude.{◌≡◌, ◌<◌, ◌≤◌, ◌+◌, ◌-◌, ◌^◌, ℕ, max, min, length, OnOk, IfOk, true, false};
 ghost use Rattle.std.specs.Bool.{MatchBool};
 ghost use Rattle.kernel_spec.specs.Kernel.{is_live};
 ghost use Rattle.node_machine.specs.Policy.{given_by};
 ghost use Rattle.node_core.specs.Turns.{is_strange, one_more, recorded_in, settled_in, skipped_in, TurnsAs};
-ghost use Rattle.node_core.specs.Kinds.{is_misplaced, HearsSome, IsStrange};
-ghost use Rattle.node_core.specs.Turning.{has_many_hops, is_odd, HearsAnySome, FullAt, IsDone, IsRest, TookLetter, WentOn};
+ghost use Rattle.node_core.specs.Kinds.{is_misplaced};
+ghost use Rattle.node_core.specs.Turning.{has_many_hops, is_odd, HearsAny, IsDone, IsRest, TookLetter, WentOn};
 
 use crate::letters::strange;
 use crate::node::Node;
-use crate::rotation::{Kind, picked};
+use crate::rotation::picked;
 use call_forward::{Acted, Letter, Message};
 use call_table::NoMemory;
 use call_table::limit::STAMPS;
@@ -29,9 +29,6 @@ pub enum Turned {
     Finished,
     /// More was due, and the journal is full.
     JournalFull,
-    /// What came or was due is not built yet: halves of vectors from another node, and, in a cluster of more than one node or with a full journal where a
-    /// held call can go on, a turn without a letter.
-    NotBuilt,
 }
 
 /// Whether an event stands for a letter that does not fit.
@@ -69,16 +66,6 @@ fn all_ended(kernel: &Kernel) -> bool
         }
     }
     true
-}
-
-/// What is answered where this kind has something to do and the journal is full.
-fn full(kind: Kind) -> Turned
-    ensures { FullAt kind result }
-{
-    match kind {
-        Kind::Retry => Turned::NotBuilt,
-        _ => Turned::JournalFull,
-    }
 }
 
 impl Node {
@@ -123,7 +110,8 @@ impl Node {
 
     /// Whether an event can be written down.
     fn has_room(&self) -> bool
-        ensures { MatchBool result (length self.now.journal.events < self.now.journal.room) (length self.now.journal.events ≡ self.now.journal.room) }
+        ensures is { MatchBool result (length self.now.journal.events < self.now.journal.room) (length self.now.journal.events ≡ self.now.journal.room) }
+        ensures most { length self.now.journal.events ≤ self.now.journal.room }
     {
         let _events = self.journal.len();
         !self.journal.is_full()
@@ -138,26 +126,34 @@ impl Node {
         letter.stamp >= STAMPS || letter.to >= self.shape.nodes || has_many_hops(&letter.message)
     }
 
-    /// What the node makes of a message. None where the kind of message is not built yet.
-    fn hear_any(
+    /// What the node makes of a message, with an event of this stamp.
+    #[tactic(auto, using(crate::proofs::Doing::misplaced_any, crate::proofs::Doing::heard_any))]
+    fn hear_any<C: Chooser>(
         &mut self,
         alloc: Global,
+        stamp: u64,
         from: u8,
         message: Message,
-    ) -> Result<Option<Acted>, NoMemory>
-        ensures { IfOk result (λ acted. HearsAnySome from message acted self.old self.new) }
+        policy: &Policy<C>,
+    ) -> Result<Acted, NoMemory>
+        ensures { IfOk result (λ acted. HearsAny (C.answers policy.now) stamp from message acted self.old self.new) }
     {
         if self.is_misplaced(from, &message) {
-            return Ok(Some(strange(alloc)));
+            return Ok(strange(alloc));
         }
-        let acted = self.hear(alloc, from, message)?;
+        let acted = self.hear(alloc, stamp, from, message, policy)?;
         Ok(acted)
     }
 
     /// The node takes a letter.
-    fn take_letter(&mut self, alloc: Global, letter: Letter) -> Result<Turned, NoMemory>
+    fn take_letter<C: Chooser>(
+        &mut self,
+        alloc: Global,
+        letter: Letter,
+        policy: &Policy<C>,
+    ) -> Result<Turned, NoMemory>
         requires { length self.old.journal.events < self.old.journal.room }
-        ensures { IfOk result (λ turned. TookLetter turned letter self.old self.new) }
+        ensures { IfOk result (λ turned. TookLetter (C.answers policy.now) turned letter self.old self.new) }
     {
         if self.is_odd(&letter) {
             self.strange = self.strange.saturating_add(1);
@@ -165,9 +161,7 @@ impl Node {
         }
         let stamp = later(self.clock, letter.stamp);
         let from = letter.from;
-        let Some(acted) = self.hear_any(alloc, from, letter.message)? else {
-            return Ok(Turned::NotBuilt);
-        };
+        let acted = self.hear_any(alloc, stamp, from, letter.message, policy)?;
         self.settle(stamp, acted)?;
         Ok(Turned::Did)
     }
@@ -197,22 +191,22 @@ impl Node {
     }
 
     /// The node goes on by itself.
-    fn go_on(&mut self, alloc: Global) -> Result<Turned, NoMemory>
-        ensures { IfOk result (λ turned. WentOn turned self.old self.new) }
+    #[tactic(auto, using(crate::proofs::Doing::lacks_is))]
+    fn go_on<C: Chooser>(&mut self, alloc: Global, policy: &Policy<C>) -> Result<Turned, NoMemory>
+        ensures { IfOk result (λ turned. WentOn (C.answers policy.now) turned self.old self.new) }
     {
-        if self.shape.nodes > 1 {
-            return Ok(Turned::NotBuilt);
-        }
+        let room = self.has_room();
         let ready = self.ready();
         let Some(kind) = picked(self.rotation.last, &ready) else {
             return Ok(self.rest());
         };
-        if !self.has_room() {
-            return Ok(full(kind));
+        if !room {
+            return Ok(Turned::JournalFull);
         }
         let stamp = later(self.clock, 0);
-        let Some(acted) = self.carry_out(alloc, kind, ready.context)? else {
-            return Ok(Turned::NotBuilt);
+        // a node that suits a plan has what its kind of turn needs
+        let Some(acted) = self.carry_out(alloc, stamp, kind, ready.context, policy)? else {
+            return Ok(Turned::Idle);
         };
         self.rotation.take(kind, ready.context);
         self.settle(stamp, acted)?;
@@ -221,8 +215,7 @@ impl Node {
 
     /// One turn. With a letter the node takes it; without one it does what is due of the first kind in the rotation. Idle comes only where no letter came
     /// and no kind has something to do, Finished where besides it is home, its script is at its end and every process has ended. JournalFull comes only
-    /// where more is due and the journal is full: then nothing changes, and the letter is dropped. NotBuilt with a letter
-    /// changes nothing; without one nothing is said of it yet. After want of memory nothing is said of the node.
+    /// where more is due and the journal is full: then nothing changes, and the letter is dropped. After want of memory nothing is said of the node.
     #[tactic(auto, using(crate::proofs::Answering::took_answers, crate::proofs::Answering::went_answers, crate::proofs::Answering::full_answers))]
     pub fn turn<C: Chooser>(
         &mut self,
@@ -232,17 +225,16 @@ impl Node {
     ) -> Result<Turned, NoMemory>
         ensures { IfOk result (λ turned. TurnsAs (given_by (C.answers policy.now)) turned inbox self.old self.new) }
     {
-        let _policy = policy;
         match inbox {
             Some(letter) => {
                 if !self.has_room() {
                     return Ok(Turned::JournalFull);
                 }
-                let turned = self.take_letter(alloc, letter)?;
+                let turned = self.take_letter(alloc, letter, policy)?;
                 Ok(turned)
             }
             None => {
-                let turned = self.go_on(alloc)?;
+                let turned = self.go_on(alloc, policy)?;
                 Ok(turned)
             }
         }

@@ -1,4 +1,4 @@
-use Rattle.node_core.proofs.Doing.{departed}
+use Rattle.node_core.proofs.Deciding.{departed}
 use Rattle.node_core.proofs.node.Node.depart.Goals as goal
 
 -- src/landing.rt
