@@ -12,7 +12,7 @@ use Rattle.run_laws.proofs.Plays.{at_replay}
 use Rattle.run_laws.proofs.Played.{path_played}
 use Rattle.run_laws.proofs.Resting.{kinds_due, busy_due, full_due, finished_done}
 use Rattle.run_laws.proofs.Statuses.{blocked_told, ended_told}
-use Rattle.run_laws.proofs.Quietness.{done_rests, no_turn, over}
+use Rattle.run_laws.proofs.Quietness.{done_rests, no_turn, live_held, over}
 use Rattle.run_laws.proofs.Making.{kind_of}
 use Rattle.run_laws.proofs.Going.{can_go}
 use Rattle.run_laws.proofs.Taking.{can_take}
@@ -33,6 +33,7 @@ module _ (O : Ops) (S : Sound O) where
         ended = λ p least most dead. ended_told O b.machine p dead (S.ended b.machine.kernel p least most dead);
         finished = finished_done O S h s.spots w s.path s.stands b.machine b.agrees;
         over = λ rest. over O S h s.spots w s.path s.stands b.machine b.agrees S.some rest;
+        held = λ rest p live. live_held O S h s.spots w s.path s.stands b.machine b.agrees S.some rest p live;
         done_rests = done_rests O S h s.spots w s.path b.machine b.agrees;
         still = λ rest t v goes. no_turn O S h s.spots w s.path s.stands S.some rest t v goes;
         goes = λ able k n below x. can_go O S h s.spots w s.path s.stands able k n below x;

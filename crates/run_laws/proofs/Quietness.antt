@@ -9,7 +9,7 @@ use Rattle.node_event.specs.declared.script.Order.TheVariants as order
 use Rattle.node_event.specs.declared.script.ScriptLine.{ScriptLine}
 use Rattle.protocol.specs.Ops.{Ops, Sound, IsMove}
 use Rattle.protocol.specs.Deeds.{order_at, Noted}
-use Rattle.protocol.specs.Notes.{Call, Pause, Reply, Ask, Allow, Deny, Move, Post, Turn, Body, Kept, Slot, Running, context, Way, way}
+use Rattle.protocol.specs.Notes.{Call, Pause, Reply, Ask, Allow, Deny, Move, Post, Turn, Body, Called, Kept, Slot, Running, context, Way, way}
 use Rattle.protocol.specs.Spots.{Spot, Nowhere, Runs, Calls, Holds, Pauses, Answered, Asks, Granted, Denied, Travels, InReply, Ended, call_at, slot_by, way_by}
 use Rattle.protocol.specs.Cluster.{World, Goes, at_front, events}
 use Rattle.protocol.specs.Needs.{brings, Right, alive}
@@ -138,6 +138,9 @@ module _ (O : Ops) (S : Sound O) where
     quiet_at p (InReply q u) e = (let x = brings_way q p (sp q) ((path_trails O S h sp w path).inside.by p q u e) in absurd (off_way q x.0 x.1))
     quiet_at p (Ended u) e = inr (inr (u, refl))
 
+    held_at : (p n : ℕ) (b : Body O) (k : Option Kept) (r : O.Request) → sp p ≡ Holds n b k r → ((w.nodes 0).slots p).call ≡ Some (record { from = n; request = r })
+    held_at p n b k r e = ap (λ (s : Slot O). s.call) ((st.at p).slots 0) ∙ ap (call_at O) e
+
     -- a held call blocks, and no signal is deliverable
     blocked_at : (p n : ℕ) (b : Body O) (k : Option Kept) (r : O.Request) → sp p ≡ Holds n b k r → Blocked O m p (O.number r)
     blocked_at p n b k r e = record {
@@ -148,19 +151,19 @@ module _ (O : Ops) (S : Sound O) where
       quiet = none_of (O.lowest m.kernel p) (λ f. retry (inr f));
     }
       where
-        held : ((w.nodes 0).slots p).call ≡ Some (record { from = n; request = r })
-        held = ap (λ (k : Slot O). k.call) ((st.at p).slots 0) ∙ ap (call_at O) e
-
         retry : (O.serve m.kernel p r ≢ None) ⊎ (O.lowest m.kernel p ≢ None) → ⊥
-        retry f = rest.nodes 0 some (Retry p) (refl, record { call = record { from = n; request = r }; held = held; ready = subst (λ (k : O.Kernel). (O.serve k p r ≢ None) ⊎ (O.lowest k p ≢ None)) (sym agrees.kernel) f })
+        retry f = rest.nodes 0 some (Retry p) (refl, record { call = record { from = n; request = r }; held = held_at p n b k r e; ready = subst (λ (k : O.Kernel). (O.serve k p r ≢ None) ⊎ (O.lowest k p ≢ None)) (sym agrees.kernel) f })
+
+    pub live_held : (p : ℕ) → O.live m.kernel p ≡ true → (c : Called O) × (((w.nodes 0).slots p).call ≡ Some c) × Blocked O m p (O.number c.request)
+    live_held p live = go (quiet_at p (sp p) refl)
+      where
+        go : Quiet (sp p) → (c : Called O) × (((w.nodes 0).slots p).call ≡ Some c) × Blocked O m p (O.number c.request)
+        go (inl e) = let z : true ≡ false = sym live ∙ (agrees.alive p ∙ ap (alive O) e) in absurd cc
+        go (inr (inl (n, b, k, r, e))) = (record { from = n; request = r }, held_at p n b k r e, blocked_at p n b k r e)
+        go (inr (inr (u, e))) = let z : true ≡ false = sym live ∙ (agrees.alive p ∙ ap (alive O) e) in absurd cc
 
     live_blocked : (p : ℕ) → O.live m.kernel p ≡ true → (number : ℕ) × Blocked O m p number
-    live_blocked p live = go (quiet_at p (sp p) refl)
-      where
-        go : Quiet (sp p) → (number : ℕ) × Blocked O m p number
-        go (inl e) = let z : true ≡ false = sym live ∙ (agrees.alive p ∙ ap (alive O) e) in absurd cc
-        go (inr (inl (n, b, k, r, e))) = (O.number r, blocked_at p n b k r e)
-        go (inr (inr (u, e))) = let z : true ≡ false = sym live ∙ (agrees.alive p ∙ ap (alive O) e) in absurd cc
+    live_blocked p live = let x = live_held p live in (O.number x.0.request, x.2)
 
     -- a process that moves for a line is held, with the line's move kept
     open_at : (l p to q : ℕ) → IsCarried O l p to es → (facts q es).line ≡ Some l → IsOpen O l p to es m

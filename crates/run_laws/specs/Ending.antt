@@ -1,10 +1,10 @@
 -- What holds of the end of a run, and of each moment before it. The events stand the newest first.
-use Rattle.std.specs.Prelude.{◌≡◌, ◌≤◌, false, ◌<◌, ℕ, Some, None, List, ◌∷◌}
+use Rattle.std.specs.Prelude.{◌≡◌, ◌≤◌, true, false, ◌<◌, ℕ, Some, None, List, ◌∷◌}
 use Rattle.call_table.specs.declared.process.End.{End}
 use Rattle.call_table.specs.declared.process.PidState.TheVariants as states
 use Rattle.protocol.specs.Ops.{Ops}
 use Rattle.protocol.specs.Deeds.{Noted}
-use Rattle.protocol.specs.Notes.{Post, Turn, Local}
+use Rattle.protocol.specs.Notes.{Post, Turn, Called, Local}
 use Rattle.protocol.specs.Does.{Makes}
 use Rattle.protocol.specs.Cluster.{World, Goes}
 use Rattle.protocol.specs.Rests.{Kind, Applies, IsHalf, Rests, Finished, Busy, AllRest}
@@ -46,5 +46,7 @@ module _ (O : Ops) where
     pub still : AllRest O w → (t : Turn O) (v : World O) → Goes O w t v → ⊥
     -- and the run is done or stuck
     pub over : AllRest O w → DoneOrStuck O es machine
+    -- home then holds the call at which a live process is blocked
+    pub held : AllRest O w → (p : ℕ) → O.live machine.kernel p ≡ true → (c : Called O) × (((w.nodes 0).slots p).call ≡ Some c) × Blocked O machine p (O.number c.request)
     -- whose each node's contexts are
     pub owned : Owned O es w machine
