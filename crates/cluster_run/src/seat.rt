@@ -2,12 +2,28 @@
 use call_forward::Letter;
 use node_links::Side;
 
-/// A node, whatever it is, at its seat: its side of the carriers, the letter that a link gave back and that goes out first, and the source of the
-/// letter that came last.
+/// What the last turn at a seat answered.
+#[derive(Clone, Copy, Debug, PartialEq, Eq)]
+pub enum Rest {
+    /// The node did something, or has made no turn yet.
+    Busy,
+    /// No letter came, and nothing was due.
+    Idle,
+    /// So too, at home, where the script is at its end and every process has ended.
+    Over,
+    /// More was due, and the journal is full.
+    Full,
+    /// What was due is not built yet.
+    NotBuilt,
+}
+
+/// A node, whatever it is, at its seat: its side of the carriers, the letter that a link gave back and that goes out first, the source of the
+/// letter that came last, and what its last turn answered.
 #[derive(Drop)]
 pub struct Seat<N, C> {
     pub node: N,
     pub waits: Option<Letter>,
     pub side: Side<C>,
     pub source: u8,
+    pub rest: Rest,
 }

@@ -1,5 +1,5 @@
 // A node.
-ghost use Rattle.std.specs.Prelude.{◌≡◌, ◌++◌, ◌==◌, [], reverse, option_to_list, Some, None, IfOk, if◌then◌else◌, option_copied};
+ghost use Rattle.std.specs.Prelude.{◌≡◌, ◌++◌, ◌==◌, [], reverse, option_to_list, Some, None, IfOk, IfNone, if◌then◌else◌, option_copied};
 ghost use Rattle.node_core.specs.Making.{new_node, Beginning};
 ghost use Rattle.node_core.specs.Suits.{Suits};
 ghost use Rattle.node_machine.specs.Plan.{Plan as run_plan};
@@ -111,6 +111,7 @@ impl Node {
     /// Takes the first letter out that it posted. None exactly where there is none.
     pub fn next_out(&mut self) -> Option<Letter>
         ensures letters { self.old.outbox ≡ option_to_list result ++ self.new.outbox }
+        ensures none { IfNone result (self.old.outbox ≡ []) }
         ensures rest { self.new ≡ record self.old { outbox = self.new.outbox } }
     {
         self.outbox.pop()

@@ -1,5 +1,5 @@
 // The letters that a node has posted.
-ghost use Rattle.std.specs.Prelude.{◌≡◌, ◌++◌, ◌∷◌, [], map, OnOk, option_to_list};
+ghost use Rattle.std.specs.Prelude.{◌≡◌, ◌++◌, ◌∷◌, [], map, OnOk, IfNone, option_to_list};
 ghost use Rattle.node_core.specs.Letters.{posted_by};
 
 use call_forward::{Letter, Mail};
@@ -62,7 +62,8 @@ impl Outbox {
 
     /// Takes the first letter. None exactly where there is none.
     pub fn pop(&mut self) -> Option<Letter>
-        ensures { self.old ≡ option_to_list result ++ self.new }
+        ensures letters { self.old ≡ option_to_list result ++ self.new }
+        ensures none { IfNone result (self.old ≡ []) }
     {
         self.items.pop_front()
     }
