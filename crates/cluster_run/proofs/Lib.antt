@@ -1,3 +1,13 @@
 pub mod Places
 pub mod Meetings
 pub mod Calming
+pub mod Living
+pub mod Rounds
+pub mod Passing
+pub mod Unskipped
+pub mod Ordered
+pub mod Firsts
+pub mod Counting
+pub mod Assembling
+pub mod Concluding
+pub mod Stilled

@@ -1,5 +1,5 @@
 -- What a seat has done by itself, and what each step of it keeps.
-use Rattle.std.specs.Prelude.{◌≡◌, ℕ, ◌==◌, cond, Option, Some, None, List, [], ◌∷◌, ◌++◌, length, map, reverse, option_to_list}
+use Rattle.std.specs.Prelude.{◌≡◌, ℕ, ◌≤◌, ◌==◌, cond, Option, Some, None, List, [], ◌∷◌, ◌++◌, length, map, reverse, option_to_list}
 use Rattle.std.specs.Option.{option_map}
 use Rattle.call_forward.specs.declared.letter.Letter.{Letter}
 use Rattle.protocol.specs.Deeds.{all_noted}
@@ -55,6 +55,7 @@ pub record Made {C : Type 0} (policy : Policy) (answer : Rest) (inbox : Option L
   pub answer_is : answer ≡ rest_of turned
   pub turns : TurnsAs policy turned inbox old.node new.node
   pub same : new ≡ record old { node = new.node; rest = answer }
+  pub fits : length new.node.journal.events ≤ new.node.journal.room
 
 -- ---- all that a seat has done
 
@@ -77,6 +78,7 @@ module _ (policy : Policy) (plan : Plan) where
     pub id : node.id ≡ n
     pub suits : Suits plan node
     pub room_is : node.journal.room ≡ room
+    pub fits : length node.journal.events ≤ room
     pub journal_is : reverse (all_noted plan.script node.journal.events) ≡ journal (machine policy plan) acts
     pub strange : AreUsual acts → node.strange ≡ 0
     pub mail : (m : ℕ) → map (post_of policy plan) (put m ++ bound m waits) ≡ all_posted (machine policy plan) n m acts

@@ -1,7 +1,8 @@
 // A round of one seat: its letters go out, at most one comes in, and the node makes a turn.
-ghost use Rattle.std.specs.Prelude.{◌≡◌, ◌++◌, [], None, false, option_to_list, IfOk, IfNone};
+ghost use Rattle.std.specs.Prelude.{◌≡◌, ◌++◌, [], None, false, true, option_to_list, IfOk, IfNone};
 ghost use Rattle.node_machine.specs.Policy.{given_by};
 ghost use Rattle.cluster_run.specs.Seats.{rest_of, waiting, Step, Made, Went};
+ghost use Rattle.cluster_run.specs.Passing.{IsRest, IsAtRest};
 
 use crate::seat::{Rest, Seat};
 use crate::side::{hand, look};
@@ -23,6 +24,13 @@ fn rest_of(turned: Turned) -> Rest
         Turned::JournalFull => Rest::Full,
         Turned::NotBuilt => Rest::NotBuilt,
     }
+}
+
+/// Whether the answer of a turn was that nothing is due.
+fn is_rest(rest: Rest) -> bool
+    ensures { result ≡ true → IsRest rest }
+{
+    matches!(rest, Rest::Idle | Rest::Over)
 }
 
 /// The source after one, round and round.
@@ -72,12 +80,22 @@ impl<C: Carrier> Seat<Node, C> {
     }
 
     /// Whether a letter waits. The first one then waits as one that a link gave back.
-    pub(crate) fn holds_letter(&mut self) -> bool
+    fn holds_letter(&mut self) -> bool
         ensures step { Step C.puts C.gives C.pair None self.old self.new }
         ensures none { result ≡ false → waiting self.new ≡ [] }
     {
         self.waits = self.next_out();
         self.waits.is_some()
+    }
+
+    /// Whether the last turn found nothing due, and no letter waits.
+    pub(crate) fn is_at_rest(&mut self) -> bool
+        ensures step { Step C.puts C.gives C.pair None self.old self.new }
+        ensures rest { result ≡ true → IsAtRest self.new }
+    {
+        let rests = is_rest(self.rest);
+        let holds = self.holds_letter();
+        rests && !holds
     }
 
     /// Takes a letter off the link from a node, where one is there.
@@ -108,7 +126,7 @@ impl<C: Carrier> Seat<Node, C> {
     }
 
     /// One turn of the node.
-    fn make<P: Chooser>(
+    pub(crate) fn make<P: Chooser>(
         &mut self,
         alloc: Global,
         inbox: Option<Letter>,
@@ -117,6 +135,7 @@ impl<C: Carrier> Seat<Node, C> {
         ensures { IfOk result (λ rest. Made (given_by (P.answers policy.now)) rest inbox self.old self.new) }
     {
         let turned = self.node.turn(alloc, inbox, policy)?;
+        let _events = self.node.journal().len();
         let rest = rest_of(turned);
         self.rest = rest;
         Ok(rest)
