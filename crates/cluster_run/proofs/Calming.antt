@@ -99,10 +99,10 @@ module _ {C : Type 0} (puts gives : C → List Letter) (pair : C → C → Type 
   side_calm_then xs ys zs a b = record { put_same = λ m. b.put_same m ∙ a.put_same m; given_same = λ m. b.given_same m ∙ a.given_same m; side = side_then pair xs ys zs a.side b.side }
 
 module _ {N C : Type 0} (puts gives : C → List Letter) (pair : C → C → Type 0) where
-  seat_same : (s : Seat N C) → SeatCalm puts gives pair s s
+  pub seat_same : (s : Seat N C) → SeatCalm puts gives pair s s
   seat_same s = record { same = refl; side = calm_same puts gives pair s.side }
 
-  seat_then : (s t u : Seat N C) → SeatCalm puts gives pair s t → SeatCalm puts gives pair t u → SeatCalm puts gives pair s u
+  pub seat_then : (s t u : Seat N C) → SeatCalm puts gives pair s t → SeatCalm puts gives pair t u → SeatCalm puts gives pair s u
   seat_then s t u a b = record { same = b.same ∙ ap (λ (w : Seat N C). record w { side = u.side }) a.same; side = side_calm_then puts gives pair s.side t.side u.side a.side b.side }
 
   pub calm_none : (xs : List (Seat N C)) → Calm puts gives pair xs xs
@@ -111,7 +111,7 @@ module _ {N C : Type 0} (puts gives : C → List Letter) (pair : C → C → Typ
   pub calm_then : (xs ys zs : List (Seat N C)) → Calm puts gives pair xs ys → Calm puts gives pair ys zs → Calm puts gives pair xs zs
   calm_then xs ys zs a b = record { count = b.count ∙ a.count; each = λ k u e. let q = b.each k u e in let p = a.each k q.0 q.1 in (p.0, p.1, seat_then p.0 q.0 u p.2 q.2) }
 
-  calm_set : (xs : List (Seat N C)) (k : ℕ) (s t : Seat N C) → slice_get xs k ≡ Some s → SeatCalm puts gives pair s t → Calm puts gives pair xs (slice_set xs k t)
+  pub calm_set : (xs : List (Seat N C)) (k : ℕ) (s t : Seat N C) → slice_get xs k ≡ Some s → SeatCalm puts gives pair s t → Calm puts gives pair xs (slice_set xs k t)
   calm_set xs k s t e c = record { count = length_set xs k t; each = λ m u is. go m u is (m == k) refl }
     where
       go : (m : ℕ) (u : Seat N C) → slice_get (slice_set xs k t) m ≡ Some u → (b : Bool) → (m == k) ≡ b → (r : Seat N C) × (slice_get xs m ≡ Some r) × SeatCalm puts gives pair r u

@@ -64,7 +64,7 @@ module _ (policy : Policy) (fit : IsFitting policy) (plan : Plan) (is_plan : IsP
   nodes_count : length (map (λ (s : Seat Node C). s.node) seats) ≡ length seats
   nodes_count = length_map (λ (s : Seat Node C). s.node) seats
 
-  own_of : (k : ℕ) (s : Seat Node C) → slice_get seats k ≡ Some s → own_events k (all_noted plan.script es) ≡ reverse (all_noted plan.script s.node.journal.events)
+  pub own_of : (k : ℕ) (s : Seat Node C) → slice_get seats k ≡ Some s → own_events k (all_noted plan.script es) ≡ reverse (all_noted plan.script s.node.journal.events)
   own_of k s e = woven.own k s.node (get_map (λ (t : Seat Node C). t.node) seats k s e)
 
   beyond : (k : ℕ) → slice_get seats k ≡ None → own_events k (all_noted plan.script es) ≡ []

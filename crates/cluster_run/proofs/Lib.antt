@@ -11,3 +11,10 @@ pub mod Counting
 pub mod Assembling
 pub mod Concluding
 pub mod Stilled
+pub mod Asking
+pub mod Awaited
+pub mod Stopping
+pub mod Leading
+pub mod Seated
+pub mod Serial
+pub mod Runs

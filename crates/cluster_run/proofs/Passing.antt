@@ -25,7 +25,7 @@ use Rattle.cluster_run.proofs.Rounds.{if_none, step_none, step_then}
 
 module _ {A : Type 0} (xs : List A) (at : ℕ) (x y : A) (is : slice_get xs at ≡ Some x) where
   -- R of each old one and the one that stands there now, where it is of each and itself
-  set_each : (R : A → A → Type 0) → ((z : A) → R z z) → R x y → (k : ℕ) (z : A) → slice_get (slice_set xs at y) k ≡ Some z → (w : A) × (slice_get xs k ≡ Some w) × R w z
+  pub set_each : (R : A → A → Type 0) → ((z : A) → R z z) → R x y → (k : ℕ) (z : A) → slice_get (slice_set xs at y) k ≡ Some z → (w : A) × (slice_get xs k ≡ Some w) × R w z
   set_each R same r k z e = go (k == at) refl
     where
       go : (b : Bool) → (k == at) ≡ b → (w : A) × (slice_get xs k ≡ Some w) × R w z
@@ -36,7 +36,7 @@ module _ {A : Type 0} (xs : List A) (at : ℕ) (x y : A) (is : slice_get xs at �
       go false q = (z, sym (get_off xs at k y (λ n. let f : true ≡ false = sym (eq-eqb k at n) ∙ q in cc)) ∙ e, same z)
 
   -- P of each now, where it is of the new one, and of the old ones at other places
-  set_all : (P : ℕ → A → Type 0) → P at y → ((k : ℕ) (z : A) → k ≢ at → slice_get xs k ≡ Some z → P k z) → (k : ℕ) (z : A) → slice_get (slice_set xs at y) k ≡ Some z → P k z
+  pub set_all : (P : ℕ → A → Type 0) → P at y → ((k : ℕ) (z : A) → k ≢ at → slice_get xs k ≡ Some z → P k z) → (k : ℕ) (z : A) → slice_get (slice_set xs at y) k ≡ Some z → P k z
   set_all P here off k z e = go (k == at) refl
     where
       go : (b : Bool) → (k == at) ≡ b → P k z
@@ -46,10 +46,10 @@ module _ {A : Type 0} (xs : List A) (at : ℕ) (x y : A) (is : slice_get xs at �
           subst (λ (i : ℕ). P i z) (sym n) (subst (λ (w : A). P at w) s here)
       go false q = let apart : k ≢ at = (λ n. let f : true ≡ false = sym (eq-eqb k at n) ∙ q in cc) in off k z apart (sym (get_off xs at k y apart) ∙ e)
 
-  set_here : (z : A) → slice_get (slice_set xs at y) at ≡ Some z → y ≡ z
+  pub set_here : (z : A) → slice_get (slice_set xs at y) at ≡ Some z → y ≡ z
   set_here z e = some_is y z (sym (get_set xs at y (below xs at x is)) ∙ e)
 
-  set_off : (k : ℕ) (z : A) → k ≢ at → slice_get (slice_set xs at y) k ≡ Some z → slice_get xs k ≡ Some z
+  pub set_off : (k : ℕ) (z : A) → k ≢ at → slice_get (slice_set xs at y) k ≡ Some z → slice_get xs k ≡ Some z
   set_off k z apart e = sym (get_off xs at k y apart) ∙ e
 
 -- ---- the carriers stay

@@ -12,8 +12,8 @@ use Rattle.node_core.specs.Turns.{TurnsAs}
 use Rattle.cluster_run.specs.declared.seat.Seat.{Seat}
 use Rattle.cluster_run.specs.declared.seat.Rest.{Rest}
 use Rattle.cluster_run.specs.declared.seat.Rest.TheVariants as rested
-use Rattle.cluster_run.specs.Sides.{towards, SameSide, unless, Handed, Looked}
-use Rattle.cluster_run.specs.Seats.{rest_of, bound, waiting, Step, Made, LivesAt, Turns, Went}
+use Rattle.cluster_run.specs.Sides.{towards, LookTells, SameSide, unless, Handed, Looked}
+use Rattle.cluster_run.specs.Seats.{rest_of, bound, waiting, Step, Took, Made, LivesAt, Turns, Went}
 use Rattle.cluster_run.proofs.Places.{side_same, side_then}
 use Rattle.cluster_run.proofs.Living.{nothing_if, lives_step, After, made_after}
 
@@ -73,17 +73,30 @@ module _ {C : Type 0} (puts gives : C → List Letter) (pair : C → C → Type 
     none_held (Some l) letters none e = absurd cc
 
   -- a letter was looked for
-  pub step_took : (l : Letter) (s : Seat Node C) (source : ℕ) (side : List (Towards C)) → Looked puts gives pair source (Some l) s.side side → Step puts gives pair (Some l) s (record s { side = side; source = source })
-  step_took l s source side k = record { out = λ m. ap (λ (w : List Letter). w ++ bound m (waiting s)) (k.put_now m); into = λ m. k.given_now m; side = k.side; node = refl; rest = refl }
+  module _ (known : C → ℕ) where
+    pub took_one : (l : Letter) (s : Seat Node C) (source : ℕ) (side : List (Towards C)) → Looked puts gives pair source (Some l) s.side side → LookTells known source (Some l) s.side side → Took puts gives pair known source (Some l) s (record s { side = side; source = source })
+    took_one l s source side k t = record {
+      step = record { out = λ m. ap (λ (w : List Letter). w ++ bound m (waiting s)) (k.put_now m); into = λ m. k.given_now m; side = k.side; node = refl; rest = refl };
+      tells = t;
+      put_same = k.put_now;
+      waits_same = refl;
+      none = λ e. absurd cc;
+    }
 
-  pub step_missed : (s : Seat Node C) (source : ℕ) (side : List (Towards C)) → Looked puts gives pair source None s.side side → Step puts gives pair None s (record s { side = side })
-  step_missed s source side k = record {
-    out = λ m. ap (λ (w : List Letter). w ++ bound m (waiting s)) (k.put_now m);
-    into = λ m. k.given_now m ∙ (sym (if_none (m == source) (towards gives s.side m)) ∙ if_none (m == s.source) (towards gives s.side m));
-    side = k.side;
-    node = refl;
-    rest = refl;
-  }
+    pub took_none : (s : Seat Node C) (source : ℕ) (side : List (Towards C)) → Looked puts gives pair source None s.side side → LookTells known source None s.side side → Took puts gives pair known source None s (record s { side = side })
+    took_none s source side k t = record {
+      step = record {
+        out = λ m. ap (λ (w : List Letter). w ++ bound m (waiting s)) (k.put_now m);
+        into = λ m. k.given_now m ∙ (sym (if_none (m == source) (towards gives s.side m)) ∙ if_none (m == s.source) (towards gives s.side m));
+        side = k.side;
+        node = refl;
+        rest = refl;
+      };
+      tells = t;
+      put_same = k.put_now;
+      waits_same = refl;
+      none = λ e. refl;
+    }
 
   module _ (policy : Policy) where
     by_rest : (a : Rest) (inbox : Option Letter) (s t u v : Seat Node C) → Step puts gives pair None s t → Step puts gives pair inbox t u → After policy puts gives a inbox u v → Turns policy puts gives a s v

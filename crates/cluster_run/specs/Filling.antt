@@ -12,7 +12,7 @@ use Rattle.cluster_run.specs.declared.seat.Seat.{Seat}
 use Rattle.cluster_run.specs.declared.seat.Rest.{Rest}
 use Rattle.cluster_run.specs.declared.seat.Rest.TheVariants as rested
 use Rattle.cluster_run.specs.Sides.{towards, knows}
-use Rattle.cluster_run.specs.Standing.{Calm}
+use Rattle.cluster_run.specs.Standing.{SeatCalm, Calm}
 use Rattle.cluster_run.specs.Seats.{waiting, Step, LivesAt}
 
 -- the journal of this seat is full
@@ -65,6 +65,7 @@ module _ (policy : Policy) {C : Type 0} (puts gives : C → List Letter) where
     pub t : Seat Node C
     pub is : slice_get old at ≡ Some s
     pub now : new ≡ slice_set old at t
+    pub side : t.side ≡ s.side
     pub asked : AskedSeat answer s t
 
   -- where the run stopped at node `at`: it is in hand what came there
@@ -84,7 +85,9 @@ module _ {C : Type 0} (puts gives : C → List Letter) (known : C → ℕ) (pair
   -- a letter that was known was taken, or none was
   pub record TookAny (nodes : ℕ) (came : Option Letter) (old new : Seat Node C) : Type 0 where
     pub step : Step puts gives pair came old new
-    pub calm : came ≡ None → new ≡ record old { side = new.side }
+    pub put_same : (m : ℕ) → towards puts new.side m ≡ towards puts old.side m
+    pub waits_same : waiting new ≡ waiting old
+    pub calm : came ≡ None → SeatCalm puts gives pair old new
     pub none : came ≡ None → (m : ℕ) → m < nodes → knows known old.side m ≡ 0
 
 module _ {C : Type 0} (puts gives : C → List Letter) (pair : C → C → Type 0) where
@@ -108,6 +111,8 @@ module _ {C : Type 0} (puts gives : C → List Letter) (pair : C → C → Type 
     pub is : slice_get old at ≡ Some s
     pub now : new ≡ slice_set old at t
     pub step : Step puts gives pair (Some letter) s t
+    pub put_same : (m : ℕ) → towards puts t.side m ≡ towards puts s.side m
+    pub waits_same : waiting t ≡ waiting s
 
   -- its journal is full, and a letter waits for it, or was taken
   pub record IsAwaited (nodes at : ℕ) (old new : List (Seat Node C)) : Type 0 where
@@ -126,4 +131,4 @@ module _ {C : Type 0} (puts gives : C → List Letter) (pair : C → C → Type 
     pub mid : List (Seat Node C)
     pub calm : Calm puts gives pair old mid
     pub below : (k : ℕ) → k < n → NoneComes nodes k mid
-    pub found : ((n ≡ at) × (new ≡ mid)) ⊎ IsAwaited nodes n mid new
+    pub found : ((n ≡ at) × (new ≡ mid)) ⊎ ((n < at) × IsAwaited nodes n mid new)

@@ -20,7 +20,7 @@ use Rattle.node_core.specs.Suits.{Suits}
 use Rattle.cluster_run.specs.declared.seat.Seat.{Seat}
 use Rattle.cluster_run.specs.declared.seat.Rest.{Rest}
 use Rattle.cluster_run.specs.declared.seat.Rest.TheVariants as rested
-use Rattle.cluster_run.specs.Sides.{towards, SameSide}
+use Rattle.cluster_run.specs.Sides.{towards, LookTells, SameSide}
 
 abbrev pub rest_of : Turned → Rest
 rest_of turned.Did = rested.Busy
@@ -48,6 +48,14 @@ module _ {C : Type 0} (puts gives : C → List Letter) (pair : C → C → Type 
     pub side : SameSide pair old.side new.side
     pub node : new.node ≡ record old.node { outbox = new.node.outbox }
     pub rest : new.rest ≡ old.rest
+
+  -- a look at the link from a node, and the letter that came
+  pub record Took (known : C → ℕ) (source : ℕ) (came : Option Letter) (old new : Seat Node C) : Type 0 where
+    pub step : Step came old new
+    pub tells : LookTells known source came old.side new.side
+    pub put_same : (m : ℕ) → towards puts new.side m ≡ towards puts old.side m
+    pub waits_same : waiting new ≡ waiting old
+    pub none : came ≡ None → new ≡ record old { side = new.side }
 
 -- a turn of the node, with this letter or without one
 pub record Made {C : Type 0} (policy : Policy) (answer : Rest) (inbox : Option Letter) (old new : Seat Node C) : Type 0 where

@@ -1,11 +1,12 @@
 // The least node with a full journal at which an event is due.
-ghost use Rattle.std.specs.Prelude.{◌≡◌, ◌<◌, ◌≤◌, ◌↔◌, Option, None, length, slice_get, IfOk, IsTrue, false, true};
+ghost use Rattle.std.specs.Prelude.{◌≡◌, ◌<◌, ◌≤◌, ◌↔◌, Option, None, length, slice_get, IfOk, OnOk, IsTrue, false, true};
 ghost use Rattle.node_core.specs.declared.node.Node.{Node};
 ghost use Rattle.node_core.specs.Letters.{any_to};
 ghost use Rattle.node_machine.specs.Policy.{given_by};
 ghost use Rattle.cluster_run.specs.declared.seat.Seat.{Seat};
 ghost use Rattle.cluster_run.specs.Standing.{AreLinked};
 ghost use Rattle.cluster_run.specs.Seats.{waiting};
+ghost use Rattle.cluster_run.specs.Passing.{SameSides};
 ghost use Rattle.cluster_run.specs.Filling.{IsFilled, AskedSeat, AskedAt, FirstFound, TookAny, OneWaits, AwaitedAs, FirstAwaited};
 
 use crate::seat::{Rest, Seat};
@@ -37,7 +38,8 @@ impl<C: Carrier> Seat<Node, C> {
 
     /// With a full journal, what a turn without a letter answers; Busy where the journal is not full.
     fn ask<P: Chooser>(&mut self, alloc: Global, policy: &Policy<P>) -> Result<Rest, NoMemory>
-        ensures { IfOk result (λ rest. AskedSeat (given_by (P.answers policy.now)) C.puts C.gives rest self.old self.new) }
+        ensures asked { IfOk result (λ rest. AskedSeat (given_by (P.answers policy.now)) C.puts C.gives rest self.old self.new) }
+        ensures side { OnOk result (self.new.side ≡ self.old.side) }
     {
         if !self.is_full() {
             return Ok(Rest::Busy);
@@ -81,7 +83,8 @@ pub(crate) fn first_full<C: Carrier, P: Chooser>(
     policy: &Policy<P>,
 ) -> Result<Option<u8>, NoMemory>
     requires within { node < length seats.old }
-    ensures { IfOk result (λ found. FirstFound (given_by (P.answers policy.now)) C.puts C.gives node found seats.old seats.new) }
+    ensures found { IfOk result (λ found. FirstFound (given_by (P.answers policy.now)) C.puts C.gives node found seats.old seats.new) }
+    ensures sides { OnOk result (SameSides C.pair seats.old seats.new) }
 {
     for at in 0..node {
         match ask_at(alloc, seats, at, policy)? {

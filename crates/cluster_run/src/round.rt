@@ -1,7 +1,7 @@
 // A round of one seat: its letters go out, at most one comes in, and the node makes a turn.
-ghost use Rattle.std.specs.Prelude.{◌≡◌, ◌++◌, [], None, false, true, option_to_list, IfOk, IfNone};
+ghost use Rattle.std.specs.Prelude.{◌≡◌, ◌++◌, ◌+◌, nat_lt, if◌then◌else◌, [], None, false, true, option_to_list, IfOk, IfNone};
 ghost use Rattle.node_machine.specs.Policy.{given_by};
-ghost use Rattle.cluster_run.specs.Seats.{rest_of, waiting, Step, Made, Went};
+ghost use Rattle.cluster_run.specs.Seats.{rest_of, waiting, Step, Took, Made, Went};
 ghost use Rattle.cluster_run.specs.Passing.{IsRest, IsAtRest};
 
 use crate::seat::{Rest, Seat};
@@ -34,7 +34,9 @@ fn is_rest(rest: Rest) -> bool
 }
 
 /// The source after one, round and round.
-fn next_source(source: u8, nodes: u8) -> u8 {
+fn next_source(source: u8, nodes: u8) -> u8
+    ensures { result ≡ (if nat_lt (source + 1) nodes then source + 1 else 0) }
+{
     if source < nodes && source + 1 < nodes {
         source + 1
     } else {
@@ -100,7 +102,7 @@ impl<C: Carrier> Seat<Node, C> {
 
     /// Takes a letter off the link from a node, where one is there.
     pub(crate) fn take_from(&mut self, source: u8) -> Result<Option<Letter>, NoMemory>
-        ensures { IfOk result (λ came. Step C.puts C.gives C.pair came self.old self.new) }
+        ensures { IfOk result (λ came. Took C.puts C.gives C.pair C.known source came self.old self.new) }
     {
         match look(&mut self.side, source)? {
             Some(letter) => {
