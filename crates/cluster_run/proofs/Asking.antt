@@ -7,7 +7,7 @@ use Rattle.call_forward.specs.declared.letter.Letter.{Letter}
 use Rattle.node_event.specs.declared.event.Event.{Event}
 use Rattle.node_event.specs.declared.script.ScriptLine.{ScriptLine}
 use Rattle.protocol.specs.Ops.{Ops}
-use Rattle.protocol.specs.Deeds.{Deed, Strange, Noted, all_noted}
+use Rattle.protocol.specs.Deeds.{Deed, Strange, Noted, noted, all_noted}
 use Rattle.protocol.specs.Notes.{Post, Turn, Local}
 use Rattle.protocol.specs.Does.{Does}
 use Rattle.protocol.specs.Rests.{Rests, HasMore}
@@ -42,7 +42,15 @@ usual_by O (Strange p) n old t new does none = let e : None ≡ Some _ = sym non
 usual_by O _ n old t new does none = tt
 
 one_longer : (script : List ScriptLine) (old new : List Event) (e : Noted) → all_noted script new ≡ all_noted script old ++ (e ∷ []) → length new ≡ length old + 1
-one_longer script old new e is = sym (length_map _ new) ∙ (ap length is ∙ (length-append (all_noted script old) (e ∷ []) ∙ ap (λ (k : ℕ). k + 1) (length_map _ old)))
+one_longer script old new e is = sym (length_map (noted script) new) ∙ (ap length is ∙ (length-append (all_noted script old) (e ∷ []) ∙ ap (λ (k : ℕ). k + 1) (length_map (noted script) old)))
+
+past_none : {A : Type 0} (xs : List A) (k : ℕ) → length xs ≤ k → slice_get xs k ≡ None
+past_none [] k most = refl
+past_none (x ∷ xs) zero most = absurd (omega (arith, most))
+past_none (x ∷ xs) (suc k) most = past_none xs k (omega (arith, most))
+
+pub none_same : {A : Type 0} (xs ys : List A) (k : ℕ) → length ys ≡ length xs → slice_get ys k ≡ None → slice_get xs k ≡ None
+none_same xs ys k count e = past_none xs k (let p = none_past ys k e in omega (arith, count, p))
 
 module _ (policy : Policy) {C : Type 0} (puts gives : C → List Letter) where
   module _ (s : Seat Node C) (full : IsFilled s) (new : Node) (fits : length new.journal.events ≤ new.journal.room) (plan : Plan) (room n : ℕ) (v : LivesAt policy plan puts gives room n None s) where
@@ -85,14 +93,6 @@ module _ (policy : Policy) {C : Type 0} (puts gives : C → List Letter) where
   but_rest_set : (xs : List (Seat Node C)) (at : ℕ) (s t : Seat Node C) → slice_get xs at ≡ Some s → SameButRest s t → AllSameButRest xs (slice_set xs at t)
   but_rest_set xs at s t is same = record { count = length_set xs at t; each = set_each xs at s t is (λ (v w : Seat Node C). SameButRest v w) (λ v. refl) same }
 
-  past_none : {A : Type 0} (xs : List A) (k : ℕ) → length xs ≤ k → slice_get xs k ≡ None
-  past_none [] k most = refl
-  past_none (x ∷ xs) zero most = absurd (omega (arith, most))
-  past_none (x ∷ xs) (suc k) most = past_none xs k (omega (arith, most))
-
-  pub none_same : {A : Type 0} (xs ys : List A) (k : ℕ) → length ys ≡ length xs → slice_get ys k ≡ None → slice_get xs k ≡ None
-  none_same xs ys k count e = past_none xs k (let p = none_past ys k e in omega (arith, count, p))
-
   module _ (plan : Plan) (xs ys : List (Seat Node C)) (same : AllSameButRest xs ys) where
     live_same : (room : ℕ) (hands : ℕ → Option Letter) → AllLive policy plan puts gives room hands xs → AllLive policy plan puts gives room hands ys
     live_same room hands l = record {
@@ -128,16 +128,21 @@ module _ (policy : Policy) {C : Type 0} (puts gives : C → List Letter) where
     in_no_hand plan room hands s is stop = subst (λ (o : Option Letter). LivesAt policy plan puts gives room n o s) (stop.off n (λ e. absurd (omega (arith, less, e)))) (stop.live.lives n s is)
 
     pub asked_full : AskedAt policy puts gives rested.Full n ys zs → FirstFound policy puts gives at (Some n) xs zs
-    asked_full k = (omega (arith, less), λ plan room hands stop.
-        let f = before.found plan room hands stop in
-        let a = k.asked plan room n (in_no_hand plan room hands k.s k.is f.0) in
-        let same : AllSameButRest ys zs = subst (λ (w : List (Seat Node C)). AllSameButRest ys w) (sym k.now) (but_rest_set ys n k.s k.t k.is a.0) in
-        let none : hands n ≡ None = stop.off n (λ e. absurd (omega (arith, less, e))) in
-        (record {
-          live = live_same plan ys zs same room hands f.0.live;
-          goes = goes_same plan ys zs same hands n (λ s e. subst (λ (w : Seat Node C). IsFilled w × HasMore (machine policy plan) n (option_map (post_at policy plan n) (hands n)) (local policy plan w.node)) (some_is k.s s (sym k.is ∙ e)) (a.1, subst (λ (o : Option Letter). HasMore (machine policy plan) n (option_map (post_at policy plan n) o) (local policy plan k.s.node)) (sym none) a.2));
-          below = λ i lower. rests_same plan ys zs same i (f.1 i lower);
-        }, but_rest_then xs ys zs f.2 same))
+    asked_full k = (
+      omega (arith, less),
+      λ plan room hands stop.
+          let f = before.found plan room hands stop in
+          let a = k.asked plan room n (in_no_hand plan room hands k.s k.is f.0) in
+          let same : AllSameButRest ys zs = subst (λ (w : List (Seat Node C)). AllSameButRest ys w) (sym k.now) (but_rest_set ys n k.s k.t k.is a.0) in
+          let none : hands n ≡ None = stop.off n (λ e. absurd (omega (arith, less, e))) in (
+            record {
+              live = live_same plan ys zs same room hands f.0.live;
+              goes = goes_same plan ys zs same hands n (λ s e. subst (λ (w : Seat Node C). IsFilled w × HasMore (machine policy plan) n (option_map (post_at policy plan n) (hands n)) (local policy plan w.node)) (some_is k.s s (sym k.is ∙ e)) (a.1, subst (λ (o : Option Letter). HasMore (machine policy plan) n (option_map (post_at policy plan n) o) (local policy plan k.s.node)) (sym none) a.2));
+              below = λ i lower. rests_same plan ys zs same i (f.1 i lower);
+            },
+            but_rest_then xs ys zs f.2 same,
+          ),
+    )
 
     asked_on : (answer : Rest) (s t : Seat Node C) → slice_get ys n ≡ Some s → zs ≡ slice_set ys n t → t.side ≡ s.side → ((plan : Plan) (room n : ℕ) → LivesAt policy plan puts gives room n None s → SameButRest s t × (IsFilled s → Rests (machine policy plan) n (local policy plan s.node))) → SoFar pair at (n + 1) xs zs
     asked_on answer s t is now side asked = record {
@@ -158,14 +163,12 @@ module _ (policy : Policy) {C : Type 0} (puts gives : C → List Letter) where
                 let same : n ≡ i = let y = x.1 in omega (arith, y, lower) in
                 subst (λ (j : ℕ). RestsFilled policy plan puts gives j ys) same (λ u e. subst (λ (w : Seat Node C). IsFilled w → Rests (machine policy plan) n (local policy plan w.node)) (some_is s u (sym is ∙ e)) r)
 
-    pub asked_busy : AskedAt policy puts gives rested.Busy n ys zs → SoFar pair at (n + 1) xs zs
-    asked_busy k = asked_on rested.Busy k.s k.t k.is k.now k.side k.asked
-
-    pub asked_idle : AskedAt policy puts gives rested.Idle n ys zs → SoFar pair at (n + 1) xs zs
-    asked_idle k = asked_on rested.Idle k.s k.t k.is k.now k.side k.asked
-
-    pub asked_over : AskedAt policy puts gives rested.Over n ys zs → SoFar pair at (n + 1) xs zs
-    asked_over k = asked_on rested.Over k.s k.t k.is k.now k.side k.asked
+    pub asked_more : (a : Rest) → (a ≡ rested.Full → ⊥) → (a ≡ rested.NotBuilt → ⊥) → AskedAt policy puts gives a n ys zs → SoFar pair at (n + 1) xs zs
+    asked_more rested.Full full built k = absurd (full refl)
+    asked_more rested.NotBuilt full built k = absurd (built refl)
+    asked_more rested.Busy full built k = asked_on rested.Busy k.s k.t k.is k.now k.side k.asked
+    asked_more rested.Idle full built k = asked_on rested.Idle k.s k.t k.is k.now k.side k.asked
+    asked_more rested.Over full built k = asked_on rested.Over k.s k.t k.is k.now k.side k.asked
 
   pub asked_all : (pair : C → C → Type 0) (at : ℕ) (xs ys : List (Seat Node C)) → SoFar pair at at xs ys → FirstFound policy puts gives at (Some at) xs ys
   asked_all pair at xs ys before = (omega arith, λ plan room hands stop. let f = before.found plan room hands stop in (record { live = f.0.live; goes = f.0.goes; below = f.1 }, f.2))

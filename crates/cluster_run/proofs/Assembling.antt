@@ -80,8 +80,7 @@ module _ (policy : Policy) (plan : Plan) {C : Type 0} (puts gives : C → List L
     pub none_given : slice_get seats k ≡ None → (m : ℕ) → given m ≡ []
     pub none_waits : slice_get seats k ≡ None → waits ≡ []
 
-  module _ (room : ℕ) (hands : ℕ → Option Letter) (lives : (k : ℕ) (s : Seat Node C) → slice_get seats k ≡ Some s → LivesAt policy plan puts gives room k (hands k) s) (no_hand : (k : ℕ) → slice_get seats k ≡ None → hands k ≡ None)
-      (own : (k : ℕ) (s : Seat Node C) → slice_get seats k ≡ Some s → own_events k es ≡ reverse (all_noted plan.script s.node.journal.events)) (beyond : (k : ℕ) → slice_get seats k ≡ None → own_events k es ≡ []) where
+  module _ (room : ℕ) (hands : ℕ → Option Letter) (lives : (k : ℕ) (s : Seat Node C) → slice_get seats k ≡ Some s → LivesAt policy plan puts gives room k (hands k) s) (no_hand : (k : ℕ) → slice_get seats k ≡ None → hands k ≡ None) (own : (k : ℕ) (s : Seat Node C) → slice_get seats k ≡ Some s → own_events k es ≡ reverse (all_noted plan.script s.node.journal.events)) (beyond : (k : ℕ) → slice_get seats k ≡ None → own_events k es ≡ []) where
     part_by : (k : ℕ) (o : Option (Seat Node C)) → slice_get seats k ≡ o → Part (hands k) k
     part_by k None e = record {
       acts = [];

@@ -129,9 +129,10 @@ module _ {C : Type 0} (puts gives : C → List Letter) (pair : C → C → Type 
             let same : s ≡ u = some_is s u (sym s_is ∙ e) in
             let front = (met.1.both a less).back u v e g in
             let was = met.1.calm.each a v g in
-            let zero_known : knows known u.side a ≡ 0 = subst (λ (w : Seat Node C). knows known w.side a ≡ 0) same (k.none refl a less) in
-            (all_given (towards gives u.side a) front.order.0 (towards puts v.side at) (knows known u.side a) front.order.1 (counted a u v less e g) zero_known,
-            ap (λ (w : Seat Node C). any_to at (waiting w)) was.2.same ∙ none a was.0 less was.1)
+            let zero_known : knows known u.side a ≡ 0 = subst (λ (w : Seat Node C). knows known w.side a ≡ 0) same (k.none refl a less) in (
+              all_given (towards gives u.side a) front.order.0 (towards puts v.side at) (knows known u.side a) front.order.1 (counted a u v less e g) zero_known,
+              ap (λ (w : Seat Node C). any_to at (waiting w)) was.2.same ∙ none a was.0 less was.1,
+            )
 
   -- ---- one node after another
 

@@ -19,14 +19,14 @@ total_grows (suc n) e es = go (e.node == n) (total_grows n e es)
 
 total_more : (n : ℕ) (e : Noted) (es : List Noted) → e.node < n → suc (total n es) ≤ total n (e ∷ es)
 total_more zero e es less = absurd (omega (arith, less))
-total_more (suc n) e es less = go (e.node == n) refl
+total_more (suc n) e es less = go (e.node == n) refl (λ lower. total_more n e es lower)
   where
-    go : (b : Bool) → (e.node == n) ≡ b → suc (total n es + length (own_events n es)) ≤ total n (e ∷ es) + length (cond b (e ∷ own_events n es) (own_events n es))
-    go true q = let r = total_grows n e es in omega (arith, r)
-    go false q =
+    go : (b : Bool) → (e.node == n) ≡ b → (e.node < n → suc (total n es) ≤ total n (e ∷ es)) → suc (total n es + length (own_events n es)) ≤ total n (e ∷ es) + length (cond b (e ∷ own_events n es) (own_events n es))
+    go true q more = let r = total_grows n e es in omega (arith, r)
+    go false q more =
         let apart = numbers_other e.node n q in
         let lower : e.node < n = omega (arith, less, apart) in
-        let r = total_more n e es lower in
+        let r = more lower in
         omega (arith, r)
 
 length_total : (n : ℕ) (es : List Noted) → Each (λ (e : Noted). e.node < n) es → length es ≤ total n es

@@ -21,6 +21,7 @@ use Rattle.node_core.specs.Making.{new_node, new_course}
 use Rattle.node_core.specs.Locals.{local, post_of, slot_with, believed_of, progress_of}
 use Rattle.node_core.proofs.Starting.{new_suits_of}
 use Rattle.cluster_run.specs.declared.seat.Seat.{Seat}
+use Rattle.cluster_run.specs.declared.seat.Rest.{Rest}
 use Rattle.cluster_run.specs.declared.seat.Rest.TheVariants as rested
 use Rattle.cluster_run.specs.Sides.{towards}
 use Rattle.cluster_run.specs.Seats.{bound, waiting, Found, Ready}
@@ -58,7 +59,7 @@ module _ (policy : Policy) (plan : Plan) where
       mail = λ m. ap (λ (w : List Letter). map (post_of policy plan) (w ++ bound m (waiting s))) (none_put m) ∙ ap (λ (w : List Letter). map (post_of policy plan) (bound m w)) none_waits;
       takes = λ marks m. ap (map (post_of policy plan)) (none_given m) ∙ sym (nothing_if (m == s.source));
     };
-    found = subst (λ (a : _). Found policy plan k a (local policy plan s.node)) (sym rest) tt;
+    found = subst (λ (a : Rest). Found policy plan k a (local policy plan s.node)) (sym rest) tt;
   }
     where
       none_waits : waiting s ≡ []

@@ -197,10 +197,10 @@ module _ (policy : Policy) (plan : Plan) {C : Type 0} (puts gives : C → List L
   -- ---- the stop
 
   module _ (room at : ℕ) (xs : List (Seat Node C)) (within : at < length xs) (one : OneFull policy puts gives plan room at xs) where
-    here : (s : Seat Node C) × (slice_get xs at ≡ Some s)
+    pub here : (s : Seat Node C) × (slice_get xs at ≡ Some s)
     here = seat_at xs at within
 
-    filled : Filled policy plan puts gives room at here.0
+    pub filled : Filled policy plan puts gives room at here.0
     filled = one.full here.0 here.1
 
     abbrev pub stop_hands : ℕ → Option Letter

@@ -16,5 +16,5 @@ pub mod Awaited
 pub mod Stopping
 pub mod Leading
 pub mod Seated
-pub mod Serial
+pub mod SerialRun
 pub mod Runs

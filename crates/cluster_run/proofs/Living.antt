@@ -228,7 +228,7 @@ module _ (policy : Policy) {C : Type 0} (puts gives : C → List Letter) where
   After rested.Over inbox s t = (plan : Plan) (room n : ℕ) → LivesAt policy plan puts gives room n inbox s → Ready policy plan puts gives room n t
 
   did : (inbox : Option Letter) (s : Seat Node C) (new : Node) → length new.journal.events ≤ new.journal.room → TurnsAs policy turned.Did inbox s.node new → After rested.Busy inbox s (record s { node = new; rest = rested.Busy })
-  did inbox s new fits turns plan room n v = go (turns plan v.suits)
+  did inbox s new fits t plan room n v = go (t plan v.suits)
     where
       go : turns.Made policy plan inbox s.node new ⊎ PassedOver policy plan inbox s.node new → Ready policy plan puts gives room n (record s { node = new; rest = rested.Busy })
       go (inl k) = record { lives = lives_made policy plan room n inbox (towards puts s.side) (towards gives s.side) s.waits s.source s.node new v fits k; found = tt }

@@ -72,8 +72,8 @@ ordered_end [] y r below = (tt, tt)
 ordered_end (x ∷ xs) y r below = (every_end (λ (z : Event). Precedes x z) xs y r.0 (inl below.0), ordered_end xs y r.1 below.1)
 
 map_reverse : {A B : Type 0} (f : A → B) (xs : List A) → map f (reverse xs) ≡ reverse (map f xs)
-map_reverse f [] = refl
-map_reverse f (x ∷ xs) = ap (map f) (reverse_more x xs) ∙ (map-append f (reverse xs) (x ∷ []) ∙ (ap (λ (k : List _). k ++ (f x ∷ [])) (map_reverse f xs) ∙ sym (reverse_more (f x) (map f xs))))
+map_reverse {A} {B} f [] = refl
+map_reverse {A} {B} f (x ∷ xs) = ap (map f) (reverse_more x xs) ∙ (map-append f (reverse xs) (x ∷ []) ∙ (ap (λ (k : List B). k ++ (f x ∷ [])) (map_reverse f xs) ∙ sym (reverse_more (f x) (map f xs))))
 
 module _ (script : List ScriptLine) (n : ℕ) where
   rising_of : (es : List Event) → Falling n (all_noted script es) → IsRising (reverse es)

@@ -154,5 +154,9 @@ module _ {C : Type 0} (puts gives : C → List Letter) (pair : C → C → Type 
       pub pass_unbuilt : (at : ℕ) → RoundAt policy puts gives pair rested.NotBuilt at ys zs → PassedAs policy puts gives pair nodes passed.NotBuilt xs zs
       pass_unbuilt at t = record { passes = tt; sides = sides_then pair xs ys zs before.sides t.sides }
 
-      pub pass_more : (at : ℕ) (a : Rest) → StayReady policy puts gives ys zs → SameSides pair ys zs → PassedAs policy puts gives pair nodes passed.Whole xs zs
-      pass_more at a t same = record { passes = λ plan room r. t plan room (before.passes plan room r); sides = sides_then pair xs ys zs before.sides same }
+      pub pass_on : (at : ℕ) (a : Rest) → (a ≡ rested.Full → ⊥) → (a ≡ rested.NotBuilt → ⊥) → RoundAt policy puts gives pair a at ys zs → PassedAs policy puts gives pair nodes passed.Whole xs zs
+      pass_on at rested.Full full built t = absurd (full refl)
+      pass_on at rested.NotBuilt full built t = absurd (built refl)
+      pass_on at rested.Busy full built t = record { passes = λ plan room r. t.turns plan room (before.passes plan room r); sides = sides_then pair xs ys zs before.sides t.sides }
+      pass_on at rested.Idle full built t = record { passes = λ plan room r. t.turns plan room (before.passes plan room r); sides = sides_then pair xs ys zs before.sides t.sides }
+      pass_on at rested.Over full built t = record { passes = λ plan room r. t.turns plan room (before.passes plan room r); sides = sides_then pair xs ys zs before.sides t.sides }

@@ -17,19 +17,19 @@ use Rattle.cluster_run.specs.Seats.{rest_of, bound, waiting, Step, Took, Made, L
 use Rattle.cluster_run.proofs.Places.{side_same, side_then}
 use Rattle.cluster_run.proofs.Living.{nothing_if, lives_step, After, made_after}
 
-if_none : (b : Bool) (ls : List Letter) → ls ≡ ls ++ cond b [] []
+pub if_none : (b : Bool) (ls : List Letter) → ls ≡ ls ++ cond b [] []
 if_none b ls = sym (ap (λ (w : List Letter). ls ++ w) (nothing_if b) ∙ append-nil ls)
 
--- a letter goes on its link, or waits before those that are left
-out_one : (l : Letter) (back : Option Letter) (left : List Letter) (m : ℕ) (before after : List Letter) → IfSome back (λ b. b ≡ l) → after ≡ before ++ unless back (cond (m == l.to) (l ∷ []) []) → after ++ bound m (option_to_list back ++ left) ≡ before ++ bound m (l ∷ left)
-out_one l None left m before after same is = ap (λ (w : List Letter). w ++ bound m left) is ∙ (append_assoc before (cond (m == l.to) (l ∷ []) []) (bound m left) ∙ ap (λ (w : List Letter). before ++ w) (go (m == l.to)))
-  where
-    go : (b : Bool) → cond b (l ∷ []) [] ++ bound m left ≡ cond b (l ∷ bound m left) (bound m left)
-    go true = refl
-    go false = refl
-out_one l (Some b) left m before after same is = ap (λ (w : List Letter). w ++ bound m (b ∷ left)) (is ∙ append-nil before) ∙ ap (λ (k : Letter). before ++ bound m (k ∷ left)) same
-
 module _ {C : Type 0} (puts gives : C → List Letter) (pair : C → C → Type 0) where
+  -- a letter goes on its link, or waits before those that are left
+  out_one : (l : Letter) (back : Option Letter) (left : List Letter) (m : ℕ) (before after : List Letter) → IfSome back (λ b. b ≡ l) → after ≡ before ++ unless puts gives pair back (cond (m == l.to) (l ∷ []) []) → after ++ bound m (option_to_list back ++ left) ≡ before ++ bound m (l ∷ left)
+  out_one l None left m before after same is = ap (λ (w : List Letter). w ++ bound m left) is ∙ (append_assoc before (cond (m == l.to) (l ∷ []) []) (bound m left) ∙ ap (λ (w : List Letter). before ++ w) (go (m == l.to)))
+    where
+      go : (b : Bool) → cond b (l ∷ []) [] ++ bound m left ≡ cond b (l ∷ bound m left) (bound m left)
+      go true = refl
+      go false = refl
+  out_one l (Some b) left m before after same is = ap (λ (w : List Letter). w ++ bound m (b ∷ left)) (is ∙ append-nil before) ∙ ap (λ (k : Letter). before ++ bound m (k ∷ left)) same
+
   pub step_none : (s : Seat Node C) → Step puts gives pair None s s
   step_none s = record { out = λ m. refl; into = λ m. if_none (m == s.source) (towards gives s.side m); side = side_same pair s.side; node = refl; rest = refl }
 
@@ -55,6 +55,16 @@ module _ {C : Type 0} (puts gives : C → List Letter) (pair : C → C → Type 
       out = λ m. out_one l back mid.node.outbox m (towards puts mid.side m) (towards puts side m) h.same (h.put_now m) ∙ (ap (λ (w : List (Towards C)). towards puts w m ++ bound m (l ∷ mid.node.outbox)) side_is ∙ ap (λ (w : List Letter). towards puts s.side m ++ bound m w) (sym (letters ∙ ap (λ (w : List Letter). l ∷ w) left_is)));
       into = λ m. h.given_now m ∙ (ap (λ (w : List (Towards C)). towards gives w m) side_is ∙ if_none (m == mid.source) (towards gives s.side m));
       side = subst (λ (w : List (Towards C)). SameSide pair w side) side_is h.side;
+      node = ap (λ (w : Seat Node C). w.node) out_is;
+      rest = ap (λ (w : Seat Node C). w.rest) out_is;
+    }
+
+    -- where none waited
+    pub step_left : waiting s ≡ waiting mid → Step puts gives pair None s mid
+    step_left letters = record {
+      out = λ m. ap (λ (w : List (Towards C)). towards puts w m ++ bound m (waiting mid)) side_is ∙ ap (λ (w : List Letter). towards puts s.side m ++ bound m w) (sym letters);
+      into = λ m. ap (λ (w : List (Towards C)). towards gives w m) side_is ∙ if_none (m == mid.source) (towards gives s.side m);
+      side = subst (λ (w : List (Towards C)). SameSide pair s.side w) (sym side_is) (side_same pair s.side);
       node = ap (λ (w : Seat Node C). w.node) out_is;
       rest = ap (λ (w : Seat Node C). w.rest) out_is;
     }

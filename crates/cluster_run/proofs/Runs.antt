@@ -39,26 +39,26 @@ module _ {C : Type 0} (puts gives : C → List Letter) (pair : C → C → Type 
   looked_none xs = record { steps = steps_none puts gives pair xs; each = λ e k s less. absurd (omega (arith, less)) }
 
   module _ (n : ℕ) (xs ys zs : List (Seat Node C)) (before : LookedAll puts gives pair n true xs ys) where
-    pub looked_more : LookedAt puts gives pair n true ys zs → LookedAll puts gives pair (n + 1) true xs zs
-    looked_more k = record { steps = steps_then puts gives pair xs ys zs before.steps k.steps; each = λ e i s less is. go i s less is (i == n) refl }
+    pub looked_more : (rests : Bool) → rests ≡ true → LookedAt puts gives pair n rests ys zs → LookedAll puts gives pair (n + 1) true xs zs
+    looked_more rests r k = record { steps = steps_then puts gives pair xs ys zs before.steps k.steps; each = λ e i s less is. go i s less is (i == n) refl }
       where
         go : (i : ℕ) (s : Seat Node C) → i < n + 1 → slice_get zs i ≡ Some s → (b : Bool) → (i == n) ≡ b → IsAtRest s
-        go i s less is true q = k.here refl s (ap (slice_get zs) (sym (eqb-true i n q)) ∙ is)
+        go i s less is true q = k.here r s (ap (slice_get zs) (sym (eqb-true i n q)) ∙ is)
         go i s less is false q =
             let apart : i ≢ n = (λ e. let z : true ≡ false = sym (eq-eqb i n e) ∙ q in absurd cc) in
             before.each refl i s (omega (arith, less, apart)) (k.off i s apart is)
 
-    pub looked_stop : (nodes : ℕ) → LookedAt puts gives pair n false ys zs → LookedAll puts gives pair nodes false xs zs
-    looked_stop nodes k = record { steps = steps_then puts gives pair xs ys zs before.steps k.steps; each = λ e. absurd cc }
+    pub looked_stop : (nodes : ℕ) (rests : Bool) → LookedAt puts gives pair n rests ys zs → LookedAll puts gives pair nodes false xs zs
+    looked_stop nodes rests k = record { steps = steps_then puts gives pair xs ys zs before.steps k.steps; each = λ e. absurd cc }
 
-  pub not_still : (nodes : ℕ) (xs ys : List (Seat Node C)) → LookedAll puts gives pair nodes false xs ys → Stilled puts gives pair nodes false xs ys
-  not_still nodes xs ys k = record { steps = k.steps; still = λ e. absurd cc }
+  pub not_still : (nodes : ℕ) (rests : Bool) (xs ys : List (Seat Node C)) → LookedAll puts gives pair nodes rests xs ys → Stilled puts gives pair nodes false xs ys
+  not_still nodes rests xs ys k = record { steps = k.steps; are = λ e. absurd cc }
 
-  pub stilled : (nodes : ℕ) (none : Bool) (xs ys zs : List (Seat Node C)) → LookedAll puts gives pair nodes true xs ys → AllMet puts gives pair none nodes nodes ys zs → Stilled puts gives pair nodes none xs zs
-  stilled nodes none xs ys zs k m = record {
+  pub stilled : (nodes : ℕ) (rests none : Bool) (xs ys zs : List (Seat Node C)) → rests ≡ true → LookedAll puts gives pair nodes rests xs ys → AllMet puts gives pair none nodes nodes ys zs → Stilled puts gives pair nodes none xs zs
+  stilled nodes rests none xs ys zs q k m = record {
     steps = steps_then puts gives pair xs ys zs k.steps (steps_calm puts gives pair ys zs m.calm);
-    still = λ e. record {
-      each = λ i s less is. let p = m.calm.each i s is in let r = k.each refl i p.0 less p.1 in subst (λ (w : Seat Node C). IsAtRest w) (sym p.2.same) (record { rest = r.rest; none = r.none });
+    are = λ e. record {
+      each = λ i s less is. let p = m.calm.each i s is in let r = k.each q i p.0 less p.1 in subst (λ (w : Seat Node C). IsAtRest w) (sym p.2.same) (record { rest = r.rest; none = r.none });
       links = λ a b a_less b_less. subst (λ (w : Bool). BothFront puts gives pair w a b zs) e (m.both a b a_less b_less);
     };
   }
@@ -82,7 +82,7 @@ module _ (policy : Policy) {C : Type 0} (puts gives : C → List Letter) (pair :
       subst (λ (w : OverWhy). RanAs policy plan room w (map (λ (s : Seat Node C). s.node) zs)) (sym why_is.why_is)
       (ran_as plan room why_is.home.rest (map (λ (s : Seat Node C). s.node) zs)
       (ran_still policy fit plan is_plan puts gives pair zs (sides.count ∙ count) (let c = sides.count in omega (arith, c, most)) (within_sides pair plan.nodes xs zs sides within) room now_ready
-      (subst (λ (w : ℕ). AreStill puts gives pair w zs) n (still.still refl)) why_is.home why_is.is))
+      (subst (λ (w : ℕ). AreStill puts gives pair w zs) n (still.are refl)) why_is.home why_is.is))
 
   -- a journal was full
   pub over_full : (nodes at : ℕ) (result : OverWhy) (xs ys zs : List (Seat Node C)) → PassedAs policy puts gives pair nodes (passed.Full at) xs ys → AreFull policy puts gives at result ys zs → AreOver policy puts gives result xs zs

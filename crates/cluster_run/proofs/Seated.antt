@@ -49,7 +49,7 @@ led_beyond (suc n) i j least = has_append j (led_to n i) _ ∙ (ap (λ (b : Bool
 
 led_within : (n i j : ℕ) → j < n → has j (led_to n i) ≡ is_linked i j
 led_within zero i j less = absurd (omega (arith, less))
-led_within (suc n) i j less = has_append j (led_to n i) _ ∙ go (leb_tells n j)
+led_within (suc n) i j less = has_append j (led_to n i) _ ∙ go (leb_tells n j) (λ y. led_within n i j y)
   where
     last_here : (b : Bool) → n ≡ j → has j (cond b (n ∷ []) []) ≡ b
     last_here true e = ap (λ (c : Bool). c || false) (eq-eqb n j e)
@@ -59,14 +59,14 @@ led_within (suc n) i j less = has_append j (led_to n i) _ ∙ go (leb_tells n j)
     last_off true off = ap (λ (c : Bool). c || false) (ne_eqb n j off)
     last_off false off = refl
 
-    go : ((leb n j ≡ true) × (n ≤ j)) ⊎ ((leb n j ≡ false) × (j < n)) → (has j (led_to n i) || has j (cond (is_linked i n) (n ∷ []) [])) ≡ is_linked i j
-    go (inl x) =
+    go : ((leb n j ≡ true) × (n ≤ j)) ⊎ ((leb n j ≡ false) × (j < n)) → (j < n → has j (led_to n i) ≡ is_linked i j) → (has j (led_to n i) || has j (cond (is_linked i n) (n ∷ []) [])) ≡ is_linked i j
+    go (inl x) more =
         let y = x.1 in
         let same : n ≡ j = omega (arith, y, less) in
         ap (λ (b : Bool). b || has j (cond (is_linked i n) (n ∷ []) [])) (led_beyond n i j y) ∙ (last_here (is_linked i n) same ∙ ap (λ (m : ℕ). is_linked i m) same)
-    go (inr x) =
+    go (inr x) more =
         let y = x.1 in
-        ap (λ (b : Bool). has j (led_to n i) || b) (last_off (is_linked i n) (λ e. absurd (omega (arith, e, y)))) ∙ (or_false (has j (led_to n i)) ∙ led_within n i j y)
+        ap (λ (b : Bool). has j (led_to n i) || b) (last_off (is_linked i n) (λ e. absurd (omega (arith, e, y)))) ∙ (or_false (has j (led_to n i)) ∙ more y)
 
 linked_turned : (i j : ℕ) → is_linked i j ≡ is_linked j i
 linked_turned i j = go (i == j) refl

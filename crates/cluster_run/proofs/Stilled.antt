@@ -1,5 +1,5 @@
 -- A run in which nothing is left to be done is done or stuck.
-use Rattle.std.proofs.Common.{◌≡◌, ℕ, zero, suc, ◌<◌, ◌≤◌, ◌==◌, ◌++◌, ◌⊎◌, inl, inr, Bool, true, false, cond, Option, Some, None, List, [], ◌∷◌, refl, sym, ap, ◌∙◌, subst, arith, length, map, slice_get}
+use Rattle.std.proofs.Common.{◌≡◌, ℕ, zero, suc, ◌+◌, ◌<◌, ◌≤◌, ◌==◌, ◌++◌, ◌⊎◌, inl, inr, Bool, true, false, cond, Option, Some, None, List, [], ◌∷◌, refl, sym, ap, ◌∙◌, subst, arith, length, map, slice_get}
 use Rattle.call_forward.specs.declared.letter.Letter.{Letter}
 use Rattle.node_event.specs.declared.event.Event.{Event}
 use Rattle.protocol.specs.Deeds.{all_noted}
@@ -32,7 +32,7 @@ seat_at [] k less = absurd (omega (arith, less))
 seat_at (x ∷ xs) zero less = (x, refl)
 seat_at (x ∷ xs) (suc k) less = seat_at xs k (omega (arith, less))
 
-none_more : {A : Type 0} (xs ys : List A) → xs ++ ys ≡ xs → ys ≡ []
+pub none_more : {A : Type 0} (xs ys : List A) → xs ++ ys ≡ xs → ys ≡ []
 none_more [] ys e = e
 none_more (x ∷ xs) ys e = none_more xs ys cc
 
@@ -54,10 +54,11 @@ found_rests policy plan n rested.NotBuilt l r f = absurd r
 -- what the seats did by themselves are journals
 pub journals_are : (policy : Policy) (plan : Plan) {C : Type 0} (puts gives : C → List Letter) (room : ℕ) (hands : ℕ → Option Letter) (seats : List (Seat Node C)) → ((k : ℕ) (s : Seat Node C) → slice_get seats k ≡ Some s → LivesAt policy plan puts gives room k (hands k) s)
     → AreJournals 0 (map (λ (n : Node). n.journal) (map (λ (s : Seat Node C). s.node) seats))
-journals_are policy plan puts gives room hands seats lives = are_journals 0 (map (λ (s : Seat Node _). s.node) seats) (λ k x e.
-    let g = map_got (λ (s : Seat Node _). s.node) seats k x e in
+journals_are policy plan {C} puts gives room hands seats lives = are_journals 0 (map (λ (s : Seat Node C). s.node) seats) (λ k x e.
+    let g = map_got (λ (s : Seat Node C). s.node) seats k x e in
     let v = lives k g.0 g.1 in
-    subst (λ (n : Node). IsJournal k n.journal.events) g.2 (journal_of (machine policy plan) plan.script k v.acts (local policy plan g.0.node) g.0.node.journal.events v.lone v.journal_is))
+    let same : k ≡ 0 + k = omega arith in
+    subst (λ (i : ℕ). IsJournal i x.journal.events) same (subst (λ (n : Node). IsJournal k n.journal.events) g.2 (journal_of (machine policy plan) plan.script k v.acts (local policy plan g.0.node) g.0.node.journal.events v.lone v.journal_is)))
 
 module _ (policy : Policy) (fit : IsFitting policy) (plan : Plan) (is_plan : IsPlan plan) {C : Type 0} (puts gives : C → List Letter) (pair : C → C → Type 0) (seats : List (Seat Node C)) (count : length seats ≡ plan.nodes) (most : length seats ≤ 8) (within : AreWithin plan.nodes seats) (room : ℕ) (ready : AllReady policy puts gives plan room seats) (still : AreStill puts gives pair plan.nodes seats) where
   lives : (k : ℕ) (s : Seat Node C) → slice_get seats k ≡ Some s → LivesAt policy plan puts gives room k None s

@@ -5,7 +5,7 @@ use Rattle.std.specs.Option.{option_map}
 use Rattle.std.proofs.lemmas.List.{append-nil, length-reverse}
 use Rattle.call_forward.specs.declared.letter.Letter.{Letter}
 use Rattle.node_event.specs.declared.event.Event.{Event}
-use Rattle.protocol.specs.Deeds.{Noted, all_noted}
+use Rattle.protocol.specs.Deeds.{Noted, noted, all_noted}
 use Rattle.protocol.specs.Notes.{Post, Local}
 use Rattle.protocol.specs.Cluster.{World}
 use Rattle.protocol.specs.Rests.{Kind, Applies, Rests, HasMore, Awaits, Busy}
@@ -37,19 +37,19 @@ use Rattle.cluster_run.proofs.Stilled.{seat_at, none_more, journals_are}
 
 any_bound : (n : ℕ) (ls : List Letter) → any_to n ls ≡ true → bound n ls ≡ [] → ⊥
 any_bound n [] e none = absurd cc
-any_bound n (l ∷ ls) e none = go (l.to == n) refl e
+any_bound n (l ∷ ls) e none = go (l.to == n) refl e (λ f z. any_bound n ls f z)
   where
-    go : (b : Bool) → (l.to == n) ≡ b → (b || any_to n ls) ≡ true → ⊥
-    go true q f = let z : l ∷ bound n ls ≡ [] = sym (ap (λ (b : Bool). cond b (l ∷ bound n ls) (bound n ls)) (same_numbers n l.to (sym (numbers_same l.to n q)))) ∙ none in absurd cc
-    go false q f = any_bound n ls f (sym (ap (λ (b : Bool). cond b (l ∷ bound n ls) (bound n ls)) (other_numbers n l.to (λ s. numbers_other l.to n q (sym s)))) ∙ none)
+    go : (b : Bool) → (l.to == n) ≡ b → (b || any_to n ls) ≡ true → (any_to n ls ≡ true → bound n ls ≡ [] → ⊥) → ⊥
+    go true q f more = let z : l ∷ bound n ls ≡ [] = sym (ap (λ (b : Bool). cond b (l ∷ bound n ls) (bound n ls)) (same_numbers n l.to (sym (numbers_same l.to n q)))) ∙ none in absurd cc
+    go false q f more = more f (sym (ap (λ (b : Bool). cond b (l ∷ bound n ls) (bound n ls)) (other_numbers n l.to (λ s. numbers_other l.to n q (sym s)))) ∙ none)
 
 none_bound : (n : ℕ) (ls : List Letter) → any_to n ls ≡ false → bound n ls ≡ []
 none_bound n [] e = refl
-none_bound n (l ∷ ls) e = go (l.to == n) refl e
+none_bound n (l ∷ ls) e = go (l.to == n) refl e (λ f. none_bound n ls f)
   where
-    go : (b : Bool) → (l.to == n) ≡ b → (b || any_to n ls) ≡ false → cond (n == l.to) (l ∷ bound n ls) (bound n ls) ≡ []
-    go true q f = absurd cc
-    go false q f = ap (λ (b : Bool). cond b (l ∷ bound n ls) (bound n ls)) (other_numbers n l.to (λ s. numbers_other l.to n q (sym s))) ∙ none_bound n ls f
+    go : (b : Bool) → (l.to == n) ≡ b → (b || any_to n ls) ≡ false → (any_to n ls ≡ false → bound n ls ≡ []) → cond (n == l.to) (l ∷ bound n ls) (bound n ls) ≡ []
+    go true q f more = absurd cc
+    go false q f more = ap (λ (b : Bool). cond b (l ∷ bound n ls) (bound n ls)) (other_numbers n l.to (λ s. numbers_other l.to n q (sym s))) ∙ more f
 
 last_none : {A : Type 0} (xs ys : List A) → xs ++ ys ≡ [] → ys ≡ []
 last_none [] ys e = e
@@ -70,8 +70,7 @@ module _ (policy : Policy) (plan : Plan) {C : Type 0} (puts gives : C → List L
     pub below : (k : ℕ) → k < r → NoneComes puts gives pair nodes k seats
     pub empty : (k : ℕ) → k < r → hands k ≡ None
 
-module _ (policy : Policy) (fit : IsFitting policy) (plan : Plan) (is_plan : IsPlan plan) {C : Type 0} (puts gives : C → List Letter) (pair : C → C → Type 0) (seats : List (Seat Node C)) (count : length seats ≡ plan.nodes) (most : length seats ≤ 8) (within : AreWithin plan.nodes seats) (room : ℕ) (hands : ℕ → Option Letter) (r : ℕ)
-    (least : IsLeast policy plan puts gives pair plan.nodes room hands r seats) (none : Bool) (met : (a b : ℕ) → a < plan.nodes → b < plan.nodes → BothFront puts gives pair none a b seats) where
+module _ (policy : Policy) (fit : IsFitting policy) (plan : Plan) (is_plan : IsPlan plan) {C : Type 0} (puts gives : C → List Letter) (pair : C → C → Type 0) (seats : List (Seat Node C)) (count : length seats ≡ plan.nodes) (most : length seats ≤ 8) (within : AreWithin plan.nodes seats) (room : ℕ) (hands : ℕ → Option Letter) (r : ℕ) (least : IsLeast policy plan puts gives pair plan.nodes room hands r seats) (none : Bool) (met : (a b : ℕ) → a < plan.nodes → b < plan.nodes → BothFront puts gives pair none a b seats) where
   module _ (es : List Event) (woven : AreWoven plan (map (λ (s : Seat Node C). s.node) seats) es) where
     abbrev here : (k : ℕ) → Part policy plan puts gives seats (all_noted plan.script es) (hands k) k
     here = at policy fit plan is_plan puts gives pair seats count most within es woven room hands least.live.lives least.live.none none met
@@ -86,7 +85,7 @@ module _ (policy : Policy) (fit : IsFitting policy) (plan : Plan) (is_plan : IsP
     lies a b = lying policy plan puts gives seats (all_noted plan.script es) hands here pair plan.nodes count within none met a b
 
     own_count : (k : ℕ) (s : Seat Node C) → slice_get seats k ≡ Some s → length (own_events k (all_noted plan.script es)) ≡ length s.node.journal.events
-    own_count k s e = ap length (own_of policy fit plan is_plan puts gives pair seats count most within es woven room hands least.live.lives least.live.none none met k s e) ∙ (length-reverse (all_noted plan.script s.node.journal.events) ∙ length_map _ s.node.journal.events)
+    own_count k s e = ap length (own_of policy fit plan is_plan puts gives pair seats count most within es woven room hands least.live.lives least.live.none none met k s e) ∙ (length-reverse (all_noted plan.script s.node.journal.events) ∙ length_map (noted plan.script) s.node.journal.events)
 
     -- ---- r has something to do
 

@@ -103,4 +103,4 @@ pub record LookedAll {C : Type 0} (puts gives : C → List Letter) (pair : C →
 -- whether nothing is left to be done
 pub record Stilled {C : Type 0} (puts gives : C → List Letter) (pair : C → C → Type 0) (nodes : ℕ) (still : Bool) (old new : List (Seat Node C)) : Type 0 where
   pub steps : AllStep puts gives pair old new
-  pub still : still ≡ true → AreStill puts gives pair nodes new
+  pub are : still ≡ true → AreStill puts gives pair nodes new

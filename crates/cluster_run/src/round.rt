@@ -104,7 +104,8 @@ impl<C: Carrier> Seat<Node, C> {
     pub(crate) fn take_from(&mut self, source: u8) -> Result<Option<Letter>, NoMemory>
         ensures { IfOk result (λ came. Took C.puts C.gives C.pair C.known source came self.old self.new) }
     {
-        match look(&mut self.side, source)? {
+        let came = look(&mut self.side, source)?;
+        match came {
             Some(letter) => {
                 self.source = source;
                 Ok(Some(letter))
@@ -120,7 +121,8 @@ impl<C: Carrier> Seat<Node, C> {
         let mut source = self.source;
         for _ in 0..nodes {
             source = next_source(source, nodes);
-            if let Some(letter) = self.take_from(source)? {
+            let came = self.take_from(source)?;
+            if let Some(letter) = came {
                 return Ok(Some(letter));
             }
         }

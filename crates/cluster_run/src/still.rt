@@ -31,17 +31,16 @@ fn all_at_rest<C: Carrier>(seats: &mut [Seat<Node, C>], nodes: u8) -> bool
 }
 
 /// Whether nothing is left to be done: the last turn of each node found nothing due, no letter waits, and nothing lies on any link.
-pub(crate) fn is_still<C: Carrier>(
-    seats: &mut [Seat<Node, C>],
-    nodes: u8,
-) -> Result<bool, NoMemory>
+pub(crate) fn is_still<C: Carrier>(seats: &mut [Seat<Node, C>], nodes: u8) -> Result<bool, NoMemory>
     requires nodes { nodes ≤ length seats.old }
     requires linked { AreLinked C.pair seats.old }
     ensures { IfOk result (λ still. Stilled C.puts C.gives C.pair nodes still seats.old seats.new) }
 {
-    if !all_at_rest(seats, nodes) {
-        return Ok(false);
+    let rests = all_at_rest(seats, nodes);
+    if rests {
+        let none = meet_all(seats, nodes)?;
+        Ok(none)
+    } else {
+        Ok(false)
     }
-    let none = meet_all(seats, nodes)?;
-    Ok(none)
 }

@@ -64,8 +64,10 @@ impl Outbox {
     pub fn has_to(&self, node: u8) -> bool
         ensures { result ≡ any_to node self.now }
     {
-        for letter in self.items.iter() {
-            if letter.to == node {
+        for at in 0..self.items.len() {
+            if let Some(letter) = self.items.get(at)
+                && letter.to == node
+            {
                 return true;
             }
         }
