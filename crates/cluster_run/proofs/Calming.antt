@@ -6,9 +6,9 @@ use Rattle.node_links.specs.declared.side.Towards.{Towards}
 use Rattle.node_links.specs.Sides.{carrier_to}
 use Rattle.node_links.specs.Meetings.{Keeps}
 use Rattle.cluster_run.specs.declared.seat.Seat.{Seat}
-use Rattle.cluster_run.specs.Sides.{towards, SameCarrier, SameSide}
-use Rattle.cluster_run.specs.Meeting.{Linked, Fronts, SideCalm, MetSides, MetSelf}
-use Rattle.cluster_run.specs.Standing.{AreLinked, SeatCalm, Calm, BothFront, Met, RowMet, AllMet}
+use Rattle.cluster_run.specs.Sides.{of_carrier, towards, count_of, knows, OthersStay, SameCarrier, SameSide}
+use Rattle.cluster_run.specs.Meeting.{Linked, Fronts, SideCalm, MetSides, MetSelf, CountedSides, CountedSelf}
+use Rattle.cluster_run.specs.Standing.{AreLinked, SeatCalm, Calm, BothFront, Met, RowMet, AllMet, Counted, RowCounted}
 use Rattle.cluster_run.proofs.Places.{side_then}
 use Rattle.cluster_run.proofs.Meetings.{calm_same}
 
@@ -78,7 +78,7 @@ both_parts false b e = absurd cc
 -- ---- a pair stays one
 
 module _ {C : Type 0} (pair : C → C → Type 0) where
-  linked_keeps : (o p o2 p2 : Option C) → SameCarrier pair o o2 → SameCarrier pair p p2 → Linked pair o p → Linked pair o2 p2
+  pub linked_keeps : (o p o2 p2 : Option C) → SameCarrier pair o o2 → SameCarrier pair p p2 → Linked pair o p → Linked pair o2 p2
   linked_keeps None None None None a b l = tt
   linked_keeps None None (Some c) p2 a b l = absurd a
   linked_keeps None None None (Some d) a b l = absurd b
@@ -99,10 +99,10 @@ module _ {C : Type 0} (puts gives : C → List Letter) (pair : C → C → Type 
   side_calm_then xs ys zs a b = record { put_same = λ m. b.put_same m ∙ a.put_same m; given_same = λ m. b.given_same m ∙ a.given_same m; side = side_then pair xs ys zs a.side b.side }
 
 module _ {N C : Type 0} (puts gives : C → List Letter) (pair : C → C → Type 0) where
-  seat_same : (s : Seat N C) → SeatCalm puts gives pair s s
+  pub seat_same : (s : Seat N C) → SeatCalm puts gives pair s s
   seat_same s = record { same = refl; side = calm_same puts gives pair s.side }
 
-  seat_then : (s t u : Seat N C) → SeatCalm puts gives pair s t → SeatCalm puts gives pair t u → SeatCalm puts gives pair s u
+  pub seat_then : (s t u : Seat N C) → SeatCalm puts gives pair s t → SeatCalm puts gives pair t u → SeatCalm puts gives pair s u
   seat_then s t u a b = record { same = b.same ∙ ap (λ (w : Seat N C). record w { side = u.side }) a.same; side = side_calm_then puts gives pair s.side t.side u.side a.side b.side }
 
   pub calm_none : (xs : List (Seat N C)) → Calm puts gives pair xs xs
@@ -111,7 +111,7 @@ module _ {N C : Type 0} (puts gives : C → List Letter) (pair : C → C → Typ
   pub calm_then : (xs ys zs : List (Seat N C)) → Calm puts gives pair xs ys → Calm puts gives pair ys zs → Calm puts gives pair xs zs
   calm_then xs ys zs a b = record { count = b.count ∙ a.count; each = λ k u e. let q = b.each k u e in let p = a.each k q.0 q.1 in (p.0, p.1, seat_then p.0 q.0 u p.2 q.2) }
 
-  calm_set : (xs : List (Seat N C)) (k : ℕ) (s t : Seat N C) → slice_get xs k ≡ Some s → SeatCalm puts gives pair s t → Calm puts gives pair xs (slice_set xs k t)
+  pub calm_set : (xs : List (Seat N C)) (k : ℕ) (s t : Seat N C) → slice_get xs k ≡ Some s → SeatCalm puts gives pair s t → Calm puts gives pair xs (slice_set xs k t)
   calm_set xs k s t e c = record { count = length_set xs k t; each = λ m u is. go m u is (m == k) refl }
     where
       go : (m : ℕ) (u : Seat N C) → slice_get (slice_set xs k t) m ≡ Some u → (b : Bool) → (m == k) ≡ b → (r : Seat N C) × (slice_get xs m ≡ Some r) × SeatCalm puts gives pair r u
@@ -215,3 +215,57 @@ module _ {N C : Type 0} (puts gives : C → List Letter) (pair : C → C → Typ
       go a b less within true q = subst (λ (v : ℕ). BothFront puts gives pair (none && here) v b zs) (sym (eqb-true a m q)) (both_other none here m b zs (w.both b within))
       go a b less within false q = let off : a ≢ m = λ e. let z : true ≡ false = sym (eq-eqb a m e) ∙ q in absurd cc in
           let before : a < m = omega (arith, less, off) in both_less none here a b zs (both_calm none a b ys zs w.calm (r.both a b before within))
+
+-- ---- what the taking ends know of
+
+module _ {N C : Type 0} (puts gives : C → List Letter) (known : C → ℕ) where
+  both_counted : (xs zs : List (Seat N C)) (a b : ℕ) (s t s_now t_now : Seat N C) → slice_get xs a ≡ Some s → slice_get xs b ≡ Some t → slice_get zs a ≡ Some s_now → slice_get zs b ≡ Some t_now → CountedSides puts gives known a b s.side s_now.side t.side t_now.side → Counted puts gives known a b xs zs
+  both_counted xs zs a b s t s_now t_now s_at t_at one two k = record {
+    here = λ u v p q. subst (λ (w : Seat N C). OthersStay b w.side v.side) (some_is s u (sym s_at ∙ p)) (subst (λ (w : Seat N C). OthersStay b s.side w.side) (some_is s_now v (sym one ∙ q)) k.one_others);
+    there = λ u v p q. subst (λ (w : Seat N C). OthersStay a w.side v.side) (some_is t u (sym t_at ∙ p)) (subst (λ (w : Seat N C). OthersStay a t.side w.side) (some_is t_now v (sym two ∙ q)) k.two_others);
+    comes = λ u v p q. subst (λ (w : Seat N C). length (towards gives w.side b) + knows known w.side b ≡ length (towards puts v.side a)) (some_is s_now u (sym one ∙ p)) (subst (λ (w : Seat N C). length (towards gives s_now.side b) + knows known s_now.side b ≡ length (towards puts w.side a)) (some_is t_now v (sym two ∙ q)) k.back);
+    goes = λ u v p q. subst (λ (w : Seat N C). length (towards gives v.side a) + knows known v.side a ≡ length (towards puts w.side b)) (some_is s_now u (sym one ∙ p)) (subst (λ (w : Seat N C). length (towards gives w.side a) + knows known w.side a ≡ length (towards puts s_now.side b)) (some_is t_now v (sym two ∙ q)) k.there);
+  }
+
+  pub counted_two : (xs front rear : List (Seat N C)) (a b : ℕ) (s t : Seat N C) (one two : List (Towards C)) → a < b → b < length xs → front ≡ take b xs → rear ≡ drop b xs → slice_get front a ≡ Some s → slice_get rear 0 ≡ Some t
+      → CountedSides puts gives known a b s.side one t.side two → Counted puts gives known a b xs (slice_set front a (record s { side = one }) ++ slice_set rear 0 (record t { side = two }))
+  counted_two xs front rear a b s t one two less within front_is rear_is s_is t_is k =
+      let s_at : slice_get xs a ≡ Some s = sym (get_take xs b a less) ∙ (ap (λ (w : List (Seat N C)). slice_get w a) (sym front_is) ∙ s_is) in
+      let t_at : slice_get xs b ≡ Some t = sym (get_drop xs b) ∙ (ap (λ (w : List (Seat N C)). slice_get w 0) (sym rear_is) ∙ t_is) in
+      let s_now : Seat N C = record s { side = one } in
+      let t_now : Seat N C = record t { side = two } in
+      let mid : List (Seat N C) = slice_set xs a s_now in
+      let apart : b ≢ a = λ e. absurd (omega (arith, e)) in
+      let one_at : slice_get (slice_set mid b t_now) a ≡ Some s_now = get_off mid b a t_now (λ e. apart (sym e)) ∙ get_set xs a s_now (omega arith) in
+      let two_at : slice_get (slice_set mid b t_now) b ≡ Some t_now = get_set mid b t_now (omega (arith, length_set xs a s_now)) in
+      subst (λ (w : List (Seat N C)). Counted puts gives known a b xs w) (sym (ap (λ (w : List (Seat N C)). slice_set w a s_now ++ slice_set rear 0 t_now) front_is ∙ (ap (λ (w : List (Seat N C)). slice_set (take b xs) a s_now ++ slice_set w 0 t_now) rear_is ∙ set_split xs b a s_now t_now less within)))
+      (both_counted xs (slice_set mid b t_now) a b s t s_now t_now s_at t_at one_at two_at k)
+
+  pub counted_one : (xs : List (Seat N C)) (a : ℕ) (s : Seat N C) (now : List (Towards C)) → slice_get xs a ≡ Some s → CountedSelf puts gives known a s.side now → Counted puts gives known a a xs (slice_set xs a (record s { side = now }))
+  counted_one xs a s now s_is k =
+      let s_now : Seat N C = record s { side = now } in
+      let one : slice_get (slice_set xs a s_now) a ≡ Some s_now = get_set xs a s_now (below xs a s s_is) in
+      both_counted xs (slice_set xs a s_now) a a s s s_now s_now s_is s_is one one (record { one_others = k.others; two_others = k.others; there = k.own; back = k.own })
+
+  pub counted_turned : (a b : ℕ) (xs ys : List (Seat N C)) → Counted puts gives known a b xs ys → Counted puts gives known b a xs ys
+  counted_turned a b xs ys k = record { here = k.there; there = k.here; comes = λ s t p q. k.goes t s q p; goes = λ s t p q. k.comes t s q p }
+
+  pub row_counted_none : (a : ℕ) (xs : List (Seat N C)) → RowCounted puts gives known a 0 xs
+  row_counted_none a xs b s t less p q = absurd (omega (arith, less))
+
+  pub row_counted_next : (pair : C → C → Type 0) (a n : ℕ) (ys zs : List (Seat N C)) → RowCounted puts gives known a n ys → Calm puts gives pair ys zs → Counted puts gives known a n ys zs → RowCounted puts gives known a (n + 1) zs
+  row_counted_next pair a n ys zs r c k b s t less p q = go (b == n) refl
+    where
+      go : (x : Bool) → (b == n) ≡ x → length (towards gives s.side b) + knows known s.side b ≡ length (towards puts t.side a)
+      go true e = let same : b ≡ n = eqb-true b n e in subst (λ (m : ℕ). length (towards gives s.side m) + knows known s.side m ≡ length (towards puts t.side a)) (sym same) (k.comes s t p (subst (λ (m : ℕ). slice_get zs m ≡ Some t) same q))
+      go false e =
+          let off : b ≢ n = λ same. let z : true ≡ false = sym (eq-eqb b n same) ∙ e in absurd cc in
+          let before : b < n = omega (arith, less, off) in
+          let s0 = c.each a s p in
+          let t0 = c.each b t q in
+          let was = r b s0.0 t0.0 before s0.1 t0.1 in
+          let stays : carrier_to s.side b ≡ carrier_to s0.0.side b = k.here s0.0 s s0.1 p b off in
+          let g : length (towards gives s.side b) ≡ length (towards gives s0.0.side b) = ap (λ (o : Option C). length (of_carrier gives o)) stays in
+          let w : knows known s.side b ≡ knows known s0.0.side b = ap (count_of known) stays in
+          let u : length (towards puts t.side a) ≡ length (towards puts t0.0.side a) = ap length (t0.2.side.put_same a) in
+          omega (arith, was, g, w, u)

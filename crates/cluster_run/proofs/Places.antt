@@ -1,5 +1,5 @@
 -- One carrier of a side changes.
-use Rattle.std.proofs.Common.{◌≡◌, ◌≢◌, ℕ, zero, suc, ◌<◌, ◌==◌, ◌++◌, Bool, true, false, cond, Option, Some, None, List, [], ◌∷◌, refl, sym, ap, ◌∙◌, subst, arith, length, map, slice_get, slice_set, IfSome, IfNone}
+use Rattle.std.proofs.Common.{◌≡◌, ◌≢◌, ℕ, zero, suc, ◌<◌, ◌≤◌, ◌==◌, ◌++◌, Bool, true, false, cond, Option, Some, None, List, [], ◌∷◌, refl, sym, ap, ◌∙◌, subst, arith, length, map, slice_get, slice_set, IfSome, IfNone}
 use Rattle.std.specs.Prelude.{option_to_list}
 use Rattle.std.proofs.lemmas.Bool.{eqb-true, eq-eqb, ne_eqb}
 use Rattle.std.proofs.lemmas.List.{append-nil}
@@ -7,7 +7,7 @@ use Rattle.call_forward.specs.declared.letter.Letter.{Letter}
 use Rattle.node_links.specs.Meetings.{Keeps}
 use Rattle.node_links.specs.Sides.{carrier_to}
 use Rattle.node_links.specs.declared.side.Towards.{Towards}
-use Rattle.cluster_run.specs.Sides.{of_carrier, towards, IsPlace, SameCarrier, SameSide, unless, Handed, Looked}
+use Rattle.cluster_run.specs.Sides.{of_carrier, towards, count_of, knows, OthersStay, LookTells, IsPlace, SameCarrier, SameSide, unless, Handed, Looked}
 
 not_both : (b : Bool) → b ≡ true → b ≡ false → ⊥
 not_both b p q = let z : true ≡ false = sym p ∙ q in absurd cc
@@ -22,6 +22,10 @@ some_first (Some l) A B s = s.0
 pub none_first : (o : Option Letter) (A B D : Type 0) → IfNone o (A × B × D) → IfNone o A
 none_first None A B D s = s.0
 none_first (Some l) A B D s = tt
+
+pub none_last : (o : Option Letter) (A B D : Type 0) → IfNone o (A × B × D) → o ≡ None → D
+none_last None A B D s e = s.2
+none_last (Some l) A B D s e = absurd cc
 
 pub got_below : {A : Type 0} (xs : List A) (i : ℕ) (x : A) → slice_get xs i ≡ Some x → i < length xs
 got_below [] i x e = absurd cc
@@ -175,6 +179,22 @@ module _ {C : Type 0} where
 
     pub carrier_set : (c : C) → carrier_to (slice_set side at (record { node = t.node; carrier = c })) node ≡ Some c
     carrier_set c = place_set side node at t (record { node = t.node; carrier = c }) (sym e) found found place.before node ∙ ap (λ (b : Bool). cond b (Some c) (carrier_to side node)) (eq-eqb node node refl)
+
+    pub others_at : (c : C) → OthersStay node side (slice_set side at (record { node = t.node; carrier = c }))
+    others_at c m off = place_set side node at t (record { node = t.node; carrier = c }) (sym e) found found place.before m ∙ ap (λ (b : Bool). cond b (Some c) (carrier_to side m)) (ne_eqb m node off)
+
+    pub knows_set : (f : C → ℕ) (c : C) → knows f (slice_set side at (record { node = t.node; carrier = c })) node ≡ f c
+    knows_set f c = ap (count_of f) (carrier_set c)
+
+    -- where no letter came, none was known
+    pub take_tells : (f : C → ℕ) (c d : C) (came : Option Letter) → f t.carrier ≤ f c → (came ≡ None → f c ≡ 0) → LookTells f node came side (slice_set side at (record { node = t.node; carrier = d }))
+    take_tells f c d came less none = record {
+      none = λ n. let k : knows f side node ≡ f t.carrier = ap (count_of f) carrier_at in let z = none n in omega (arith, k, less, z);
+      others = others_at d;
+    }
+
+  pub no_tells : (f : C → ℕ) (side : List (Towards C)) (node : ℕ) → carrier_to side node ≡ None → LookTells f node None side side
+  no_tells f side node e = record { none = λ n. ap (count_of f) e; others = λ m off. refl }
 
   module _ (puts gives : C → List Letter) (pair : C → C → Type 0) (side : List (Towards C)) (node at : ℕ) (place : IsPlace side node at) (t : Towards C) (e : Some t ≡ slice_get side at) (c : C) (keeps : Keeps pair t.carrier c) where
     pub side_at : SameSide pair side (slice_set side at (record { node = t.node; carrier = c }))

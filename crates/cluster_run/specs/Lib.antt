@@ -1,3 +1,9 @@
 pub mod Sides
 pub mod Meeting
 pub mod Standing
+pub mod Seats
+pub mod Passing
+pub mod Over
+pub mod Running
+pub mod Filling
+pub mod Seating

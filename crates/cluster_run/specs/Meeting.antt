@@ -1,10 +1,10 @@
 -- Carriers meet, and nothing else happens.
-use Rattle.std.specs.Prelude.{◌≡◌, ℕ, Bool, true, Option, Some, None, List}
+use Rattle.std.specs.Prelude.{◌≡◌, ℕ, ◌+◌, Bool, true, Option, Some, None, List, length}
 use mathlib.Core.List.{IsPrefix}
 use Rattle.call_forward.specs.declared.letter.Letter.{Letter}
 use Rattle.node_links.specs.Sides.{carrier_to}
 use Rattle.node_links.specs.declared.side.Towards.{Towards}
-use Rattle.cluster_run.specs.Sides.{towards, SameSide}
+use Rattle.cluster_run.specs.Sides.{towards, knows, OthersStay, SameSide}
 
 -- what came out begins what went in; where none lies between, it is all
 pub record Fronts (none : Bool) (given put : List Letter) : Type 0 where
@@ -36,3 +36,15 @@ module _ {C : Type 0} where
     pub record MetSelf (none : Bool) (a : ℕ) (old new : List (Towards C)) : Type 0 where
       pub calm : SideCalm old new
       pub own : Fronts none (towards gives new a) (towards puts new a)
+
+  module _ (puts gives : C → List Letter) (known : C → ℕ) where
+    -- after a meeting each taking end knows of all that lies on its link
+    pub record CountedSides (a b : ℕ) (one one_now two two_now : List (Towards C)) : Type 0 where
+      pub one_others : OthersStay b one one_now
+      pub two_others : OthersStay a two two_now
+      pub there : length (towards gives two_now a) + knows known two_now a ≡ length (towards puts one_now b)
+      pub back : length (towards gives one_now b) + knows known one_now b ≡ length (towards puts two_now a)
+
+    pub record CountedSelf (a : ℕ) (old new : List (Towards C)) : Type 0 where
+      pub others : OthersStay a old new
+      pub own : length (towards gives new a) + knows known new a ≡ length (towards puts new a)

@@ -1,5 +1,5 @@
 -- What a seat has done by itself, and what each step of it keeps.
-use Rattle.std.specs.Prelude.{◌≡◌, ℕ, ◌==◌, cond, Option, Some, None, List, [], ◌∷◌, ◌++◌, length, map, reverse, option_to_list}
+use Rattle.std.specs.Prelude.{◌≡◌, ℕ, ◌≤◌, ◌==◌, cond, Option, Some, None, List, [], ◌∷◌, ◌++◌, length, map, reverse, option_to_list}
 use Rattle.std.specs.Option.{option_map}
 use Rattle.call_forward.specs.declared.letter.Letter.{Letter}
 use Rattle.protocol.specs.Deeds.{all_noted}
@@ -20,7 +20,7 @@ use Rattle.node_core.specs.Suits.{Suits}
 use Rattle.cluster_run.specs.declared.seat.Seat.{Seat}
 use Rattle.cluster_run.specs.declared.seat.Rest.{Rest}
 use Rattle.cluster_run.specs.declared.seat.Rest.TheVariants as rested
-use Rattle.cluster_run.specs.Sides.{towards, SameSide}
+use Rattle.cluster_run.specs.Sides.{towards, LookTells, SameSide}
 
 abbrev pub rest_of : Turned → Rest
 rest_of turned.Did = rested.Busy
@@ -49,12 +49,21 @@ module _ {C : Type 0} (puts gives : C → List Letter) (pair : C → C → Type 
     pub node : new.node ≡ record old.node { outbox = new.node.outbox }
     pub rest : new.rest ≡ old.rest
 
+  -- a look at the link from a node, and the letter that came
+  pub record Took (known : C → ℕ) (source : ℕ) (came : Option Letter) (old new : Seat Node C) : Type 0 where
+    pub step : Step came old new
+    pub tells : LookTells known source came old.side new.side
+    pub put_same : (m : ℕ) → towards puts new.side m ≡ towards puts old.side m
+    pub waits_same : waiting new ≡ waiting old
+    pub none : came ≡ None → new ≡ record old { side = new.side }
+
 -- a turn of the node, with this letter or without one
 pub record Made {C : Type 0} (policy : Policy) (answer : Rest) (inbox : Option Letter) (old new : Seat Node C) : Type 0 where
   pub turned : Turned
   pub answer_is : answer ≡ rest_of turned
   pub turns : TurnsAs policy turned inbox old.node new.node
   pub same : new ≡ record old { node = new.node; rest = answer }
+  pub fits : length new.node.journal.events ≤ new.node.journal.room
 
 -- ---- all that a seat has done
 
@@ -77,6 +86,7 @@ module _ (policy : Policy) (plan : Plan) where
     pub id : node.id ≡ n
     pub suits : Suits plan node
     pub room_is : node.journal.room ≡ room
+    pub fits : length node.journal.events ≤ room
     pub journal_is : reverse (all_noted plan.script node.journal.events) ≡ journal (machine policy plan) acts
     pub strange : AreUsual acts → node.strange ≡ 0
     pub mail : (m : ℕ) → map (post_of policy plan) (put m ++ bound m waits) ≡ all_posted (machine policy plan) n m acts

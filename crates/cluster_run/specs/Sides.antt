@@ -14,6 +14,23 @@ module _ {C : Type 0} where
   abbrev pub towards : (C → List Letter) → List (Towards C) → ℕ → List Letter
   towards f side m = of_carrier f (carrier_to side m)
 
+  abbrev pub count_of : (C → ℕ) → Option C → ℕ
+  count_of f None = 0
+  count_of f (Some c) = f c
+
+  -- how many letters the carrier towards a node knows of, none where there is no such carrier
+  abbrev pub knows : (C → ℕ) → List (Towards C) → ℕ → ℕ
+  knows f side m = count_of f (carrier_to side m)
+
+  -- no carrier towards another node was touched
+  abbrev pub OthersStay : ℕ → List (Towards C) → List (Towards C) → Type 0
+  OthersStay node old new = (m : ℕ) → m ≢ node → carrier_to new m ≡ carrier_to old m
+
+  -- what a look at the link from a node tells besides: where none came, none was known
+  pub record LookTells (known : C → ℕ) (source : ℕ) (came : Option Letter) (old new : List (Towards C)) : Type 0 where
+    pub none : came ≡ None → knows known old source ≡ 0
+    pub others : OthersStay source old new
+
   -- the carrier at a place is the first one towards a node
   pub record IsPlace (side : List (Towards C)) (node at : ℕ) : Type 0 where
     pub here : Towards C

@@ -1,8 +1,8 @@
 -- All seats together, between two turns.
-use Rattle.std.specs.Prelude.{◌≡◌, ℕ, ◌<◌, ◌≤◌, Bool, true, Option, Some, List, length, slice_get}
+use Rattle.std.specs.Prelude.{◌≡◌, ℕ, ◌+◌, ◌<◌, ◌≤◌, Bool, true, Option, Some, List, length, slice_get}
 use Rattle.call_forward.specs.declared.letter.Letter.{Letter}
 use Rattle.node_links.specs.Sides.{carrier_to}
-use Rattle.cluster_run.specs.Sides.{towards}
+use Rattle.cluster_run.specs.Sides.{towards, knows, OthersStay}
 use Rattle.cluster_run.specs.Meeting.{Linked, Fronts, SideCalm}
 use Rattle.cluster_run.specs.declared.seat.Seat.{Seat}
 
@@ -40,3 +40,15 @@ module _ {N C : Type 0} (puts gives : C → List Letter) (pair : C → C → Typ
   pub record AllMet (none : Bool) (m n : ℕ) (old new : List (Seat N C)) : Type 0 where
     pub calm : Calm old new
     pub both : (a b : ℕ) → a < m → b < n → BothFront none a b new
+
+module _ {N C : Type 0} (puts gives : C → List Letter) (known : C → ℕ) where
+  -- after the carriers of two nodes met, the taking ends of their links know of all that lies there; no other carrier was touched
+  pub record Counted (a b : ℕ) (old new : List (Seat N C)) : Type 0 where
+    pub here : (s t : Seat N C) → slice_get old a ≡ Some s → slice_get new a ≡ Some t → OthersStay b s.side t.side
+    pub there : (s t : Seat N C) → slice_get old b ≡ Some s → slice_get new b ≡ Some t → OthersStay a s.side t.side
+    pub comes : (s t : Seat N C) → slice_get new a ≡ Some s → slice_get new b ≡ Some t → length (towards gives s.side b) + knows known s.side b ≡ length (towards puts t.side a)
+    pub goes : (s t : Seat N C) → slice_get new a ≡ Some s → slice_get new b ≡ Some t → length (towards gives t.side a) + knows known t.side a ≡ length (towards puts s.side b)
+
+  -- node a knows of all that lies on the links from nodes below n
+  abbrev pub RowCounted : ℕ → ℕ → List (Seat N C) → Type 0
+  RowCounted a n seats = (b : ℕ) (s t : Seat N C) → b < n → slice_get seats a ≡ Some s → slice_get seats b ≡ Some t → length (towards gives s.side b) + knows known s.side b ≡ length (towards puts t.side a)

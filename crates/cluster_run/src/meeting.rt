@@ -1,8 +1,8 @@
 // The carriers of two nodes towards each other meet, and those of all nodes.
-ghost use Rattle.std.specs.Prelude.{◌≡◌, IfOk};
+ghost use Rattle.std.specs.Prelude.{◌≡◌, IfOk, OnOk};
 ghost use Rattle.node_links.specs.Sides.{carrier_to};
 ghost use Rattle.cluster_run.specs.Sides.{IsPlace};
-ghost use Rattle.cluster_run.specs.Meeting.{Linked, MetSides, MetSelf};
+ghost use Rattle.cluster_run.specs.Meeting.{Linked, MetSides, MetSelf, CountedSides, CountedSelf};
 
 use crate::side::place_of;
 use call_table::NoMemory;
@@ -20,7 +20,8 @@ fn meet_at<C: Carrier>(
     requires here { IsPlace one.old b here }
     requires there { IsPlace two.old a there }
     requires linked { Linked C.pair (carrier_to one.old b) (carrier_to two.old a) }
-    ensures { IfOk result (λ none. MetSides C.puts C.gives C.pair none a b one.old one.new two.old two.new) }
+    ensures met { IfOk result (λ none. MetSides C.puts C.gives C.pair none a b one.old one.new two.old two.new) }
+    ensures counted { OnOk result (CountedSides C.puts C.gives C.known a b one.old one.new two.old two.new) }
 {
     let Some(mine) = one.get_mut(here) else {
         return Ok(false);
@@ -40,7 +41,8 @@ pub fn meet_sides<C: Carrier>(
     b: u8,
 ) -> Result<bool, NoMemory>
     requires { Linked C.pair (carrier_to one.old b) (carrier_to two.old a) }
-    ensures { IfOk result (λ none. MetSides C.puts C.gives C.pair none a b one.old one.new two.old two.new) }
+    ensures met { IfOk result (λ none. MetSides C.puts C.gives C.pair none a b one.old one.new two.old two.new) }
+    ensures counted { OnOk result (CountedSides C.puts C.gives C.known a b one.old one.new two.old two.new) }
 {
     let Some(here) = place_of(one, b) else {
         return Ok(true);
@@ -56,7 +58,8 @@ pub fn meet_sides<C: Carrier>(
 fn meet_own_at<C: Carrier>(side: &mut Side<C>, at: usize, a: u8) -> Result<bool, NoMemory>
     requires at { IsPlace side.old a at }
     requires linked { Linked C.pair (carrier_to side.old a) (carrier_to side.old a) }
-    ensures { IfOk result (λ none. MetSelf C.puts C.gives C.pair none a side.old side.new) }
+    ensures met { IfOk result (λ none. MetSelf C.puts C.gives C.pair none a side.old side.new) }
+    ensures counted { OnOk result (CountedSelf C.puts C.gives C.known a side.old side.new) }
 {
     let Some(mine) = side.get_mut(at) else {
         return Ok(false);
@@ -68,7 +71,8 @@ fn meet_own_at<C: Carrier>(side: &mut Side<C>, at: usize, a: u8) -> Result<bool,
 /// The carrier of node a towards itself, if it has one, meets itself. True exactly where nothing lies on its link.
 pub fn meet_self<C: Carrier>(side: &mut Side<C>, a: u8) -> Result<bool, NoMemory>
     requires { Linked C.pair (carrier_to side.old a) (carrier_to side.old a) }
-    ensures { IfOk result (λ none. MetSelf C.puts C.gives C.pair none a side.old side.new) }
+    ensures met { IfOk result (λ none. MetSelf C.puts C.gives C.pair none a side.old side.new) }
+    ensures counted { OnOk result (CountedSelf C.puts C.gives C.known a side.old side.new) }
 {
     let Some(at) = place_of(side, a) else {
         return Ok(true);

@@ -1,7 +1,8 @@
 // A round of one seat: its letters go out, at most one comes in, and the node makes a turn.
-ghost use Rattle.std.specs.Prelude.{◌≡◌, ◌++◌, [], None, false, option_to_list, IfOk, IfNone};
+ghost use Rattle.std.specs.Prelude.{◌≡◌, ◌++◌, ◌+◌, nat_lt, if◌then◌else◌, [], None, false, true, option_to_list, IfOk, IfNone};
 ghost use Rattle.node_machine.specs.Policy.{given_by};
-ghost use Rattle.cluster_run.specs.Seats.{rest_of, waiting, Step, Made, Went};
+ghost use Rattle.cluster_run.specs.Seats.{rest_of, waiting, Step, Took, Made, Went};
+ghost use Rattle.cluster_run.specs.Passing.{IsRest, IsAtRest};
 
 use crate::seat::{Rest, Seat};
 use crate::side::{hand, look};
@@ -25,8 +26,17 @@ fn rest_of(turned: Turned) -> Rest
     }
 }
 
+/// Whether the answer of a turn was that nothing is due.
+fn is_rest(rest: Rest) -> bool
+    ensures { result ≡ true → IsRest rest }
+{
+    matches!(rest, Rest::Idle | Rest::Over)
+}
+
 /// The source after one, round and round.
-fn next_source(source: u8, nodes: u8) -> u8 {
+fn next_source(source: u8, nodes: u8) -> u8
+    ensures { result ≡ (if nat_lt (source + 1) nodes then source + 1 else 0) }
+{
     if source < nodes && source + 1 < nodes {
         source + 1
     } else {
@@ -72,7 +82,7 @@ impl<C: Carrier> Seat<Node, C> {
     }
 
     /// Whether a letter waits. The first one then waits as one that a link gave back.
-    pub(crate) fn holds_letter(&mut self) -> bool
+    fn holds_letter(&mut self) -> bool
         ensures step { Step C.puts C.gives C.pair None self.old self.new }
         ensures none { result ≡ false → waiting self.new ≡ [] }
     {
@@ -80,11 +90,22 @@ impl<C: Carrier> Seat<Node, C> {
         self.waits.is_some()
     }
 
+    /// Whether the last turn found nothing due, and no letter waits.
+    pub(crate) fn is_at_rest(&mut self) -> bool
+        ensures step { Step C.puts C.gives C.pair None self.old self.new }
+        ensures rest { result ≡ true → IsAtRest self.new }
+    {
+        let rests = is_rest(self.rest);
+        let holds = self.holds_letter();
+        rests && !holds
+    }
+
     /// Takes a letter off the link from a node, where one is there.
     pub(crate) fn take_from(&mut self, source: u8) -> Result<Option<Letter>, NoMemory>
-        ensures { IfOk result (λ came. Step C.puts C.gives C.pair came self.old self.new) }
+        ensures { IfOk result (λ came. Took C.puts C.gives C.pair C.known source came self.old self.new) }
     {
-        match look(&mut self.side, source)? {
+        let came = look(&mut self.side, source)?;
+        match came {
             Some(letter) => {
                 self.source = source;
                 Ok(Some(letter))
@@ -100,7 +121,8 @@ impl<C: Carrier> Seat<Node, C> {
         let mut source = self.source;
         for _ in 0..nodes {
             source = next_source(source, nodes);
-            if let Some(letter) = self.take_from(source)? {
+            let came = self.take_from(source)?;
+            if let Some(letter) = came {
                 return Ok(Some(letter));
             }
         }
@@ -108,7 +130,7 @@ impl<C: Carrier> Seat<Node, C> {
     }
 
     /// One turn of the node.
-    fn make<P: Chooser>(
+    pub(crate) fn make<P: Chooser>(
         &mut self,
         alloc: Global,
         inbox: Option<Letter>,
@@ -117,6 +139,7 @@ impl<C: Carrier> Seat<Node, C> {
         ensures { IfOk result (λ rest. Made (given_by (P.answers policy.now)) rest inbox self.old self.new) }
     {
         let turned = self.node.turn(alloc, inbox, policy)?;
+        let _events = self.node.journal().len();
         let rest = rest_of(turned);
         self.rest = rest;
         Ok(rest)

@@ -1,6 +1,6 @@
 // All seats: their carriers meet.
-ghost use Rattle.std.specs.Prelude.{◌≡◌, ◌<◌, ◌≤◌, ◌&&◌, length, IfOk};
-ghost use Rattle.cluster_run.specs.Standing.{AreLinked, Met, RowMet, AllMet};
+ghost use Rattle.std.specs.Prelude.{◌≡◌, ◌<◌, ◌≤◌, ◌&&◌, length, IfOk, OnOk};
+ghost use Rattle.cluster_run.specs.Standing.{AreLinked, Met, RowMet, AllMet, Counted, RowCounted};
 
 use crate::meeting::{meet_self, meet_sides};
 use crate::seat::Seat;
@@ -12,7 +12,8 @@ fn meet_two<N, C: Carrier>(seats: &mut [Seat<N, C>], a: u8, b: u8) -> Result<boo
     requires order { a < b }
     requires within { b < length seats.old }
     requires linked { AreLinked C.pair seats.old }
-    ensures { IfOk result (λ none. Met C.puts C.gives C.pair none a b seats.old seats.new) }
+    ensures met { IfOk result (λ none. Met C.puts C.gives C.pair none a b seats.old seats.new) }
+    ensures counted { OnOk result (Counted C.puts C.gives C.known a b seats.old seats.new) }
 {
     let (front, rear) = seats.split_at_mut(b as usize);
     let none = meet_sides(&mut front[a as usize].side, a, &mut rear[0].side, b)?;
@@ -23,7 +24,8 @@ fn meet_two<N, C: Carrier>(seats: &mut [Seat<N, C>], a: u8, b: u8) -> Result<boo
 fn meet_one<N, C: Carrier>(seats: &mut [Seat<N, C>], a: u8) -> Result<bool, NoMemory>
     requires within { a < length seats.old }
     requires linked { AreLinked C.pair seats.old }
-    ensures { IfOk result (λ none. Met C.puts C.gives C.pair none a a seats.old seats.new) }
+    ensures met { IfOk result (λ none. Met C.puts C.gives C.pair none a a seats.old seats.new) }
+    ensures counted { OnOk result (Counted C.puts C.gives C.known a a seats.old seats.new) }
 {
     let none = meet_self(&mut seats[a as usize].side, a)?;
     Ok(none)
@@ -34,7 +36,8 @@ fn meet_any<N, C: Carrier>(seats: &mut [Seat<N, C>], a: u8, b: u8) -> Result<boo
     requires a { a < length seats.old }
     requires b { b < length seats.old }
     requires linked { AreLinked C.pair seats.old }
-    ensures { IfOk result (λ none. Met C.puts C.gives C.pair none a b seats.old seats.new) }
+    ensures met { IfOk result (λ none. Met C.puts C.gives C.pair none a b seats.old seats.new) }
+    ensures counted { OnOk result (Counted C.puts C.gives C.known a b seats.old seats.new) }
 {
     if a < b {
         let none = meet_two(seats, a, b)?;
@@ -60,7 +63,8 @@ pub fn meet_row<N, C: Carrier>(seats: &mut [Seat<N, C>], a: u8, nodes: u8) -> Re
     requires a { a < length seats.old }
     requires nodes { nodes ≤ length seats.old }
     requires linked { AreLinked C.pair seats.old }
-    ensures { IfOk result (λ none. RowMet C.puts C.gives C.pair none a nodes seats.old seats.new) }
+    ensures met { IfOk result (λ none. RowMet C.puts C.gives C.pair none a nodes seats.old seats.new) }
+    ensures counted { OnOk result (RowCounted C.puts C.gives C.known a nodes seats.new) }
 {
     let mut none = true;
     for b in 0..nodes {

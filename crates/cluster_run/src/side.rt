@@ -1,6 +1,6 @@
 // One side of the carriers: a letter goes out, or comes in.
 ghost use Rattle.std.specs.Prelude.{◌≡◌, ◌<◌, length, IfOk};
-ghost use Rattle.cluster_run.specs.Sides.{IsPlace, IsPlaceOf, Handed, Looked};
+ghost use Rattle.cluster_run.specs.Sides.{IsPlace, IsPlaceOf, Handed, Looked, LookTells};
 
 use call_forward::Letter;
 use call_table::NoMemory;
@@ -48,7 +48,8 @@ fn take_at<C: Carrier>(
     source: u8,
 ) -> Result<Option<Letter>, NoMemory>
     requires { IsPlace side.old source at }
-    ensures { IfOk result (λ came. Looked C.puts C.gives C.pair source came side.old side.new) }
+    ensures looked { IfOk result (λ came. Looked C.puts C.gives C.pair source came side.old side.new) }
+    ensures tells { IfOk result (λ came. LookTells C.known source came side.old side.new) }
 {
     match side.get_mut(at) {
         Some(towards) => {
@@ -61,7 +62,8 @@ fn take_at<C: Carrier>(
 
 /// The next letter of the link from a node, where one is there.
 pub fn look<C: Carrier>(side: &mut Side<C>, source: u8) -> Result<Option<Letter>, NoMemory>
-    ensures { IfOk result (λ came. Looked C.puts C.gives C.pair source came side.old side.new) }
+    ensures looked { IfOk result (λ came. Looked C.puts C.gives C.pair source came side.old side.new) }
+    ensures tells { IfOk result (λ came. LookTells C.known source came side.old side.new) }
 {
     match place_of(side, source) {
         Some(at) => take_at(side, at, source),

@@ -2,6 +2,7 @@
 ghost use Rattle.std.specs.Prelude.{◌≡◌, ◌++◌, ◌==◌, [], reverse, option_to_list, Some, None, IfOk, IfNone, if◌then◌else◌, option_copied};
 ghost use Rattle.node_core.specs.Making.{new_node, Beginning};
 ghost use Rattle.node_core.specs.Suits.{Suits};
+ghost use Rattle.node_core.specs.Letters.{any_to};
 ghost use Rattle.node_machine.specs.Plan.{Plan as run_plan};
 
 use crate::course::Course;
@@ -115,6 +116,13 @@ impl Node {
         ensures rest { self.new ≡ record self.old { outbox = self.new.outbox } }
     {
         self.outbox.pop()
+    }
+
+    /// Whether a letter to a node is among those that it posted and that were not taken out.
+    pub fn has_out(&self, node: u8) -> bool
+        ensures { result ≡ any_to node self.now.outbox }
+    {
+        self.outbox.has_to(node)
     }
 
     /// Its number: 0 is home.

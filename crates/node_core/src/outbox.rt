@@ -1,6 +1,6 @@
 // The letters that a node has posted.
 ghost use Rattle.std.specs.Prelude.{◌≡◌, ◌++◌, ◌∷◌, [], map, OnOk, IfNone, option_to_list};
-ghost use Rattle.node_core.specs.Letters.{posted_by};
+ghost use Rattle.node_core.specs.Letters.{posted_by, any_to};
 
 use call_forward::{Letter, Mail};
 use call_table::NoMemory;
@@ -58,6 +58,20 @@ impl Outbox {
             })?;
         }
         Ok(())
+    }
+
+    /// Whether a letter to a node is among them.
+    pub fn has_to(&self, node: u8) -> bool
+        ensures { result ≡ any_to node self.now }
+    {
+        for at in 0..self.items.len() {
+            if let Some(letter) = self.items.get(at)
+                && letter.to == node
+            {
+                return true;
+            }
+        }
+        false
     }
 
     /// Takes the first letter. None exactly where there is none.

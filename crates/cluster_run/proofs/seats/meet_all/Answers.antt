@@ -11,4 +11,4 @@ loop-a-init g c = all_none g.C.Carrier.puts g.C.Carrier.gives g.C.Carrier.pair c
 
 pub loop-a-preserved : goal.loop-a-preserved
 loop-a-preserved g c = subst (λ (k : Bool). AllMet g.C.Carrier.puts g.C.Carrier.gives g.C.Carrier.pair k (c.loop-a.a + 1) c.args.nodes c.args.seats.now c.meet_row.new.seats) (sym c.and-none.ensures)
-    (all_next g.C.Carrier.puts g.C.Carrier.gives g.C.Carrier.pair c.loop-a.none c.in_ok-here.here c.loop-a.a c.args.nodes c.args.seats.now c.loop-a.seats c.meet_row.new.seats c.loop-a.invariant c.in_ok-here.ensures)
+    (all_next g.C.Carrier.puts g.C.Carrier.gives g.C.Carrier.pair c.loop-a.none c.in_ok-here.here c.loop-a.a c.args.nodes c.args.seats.now c.loop-a.seats c.meet_row.new.seats c.loop-a.invariant c.in_ok-here.ensures.met)

@@ -1,0 +1,66 @@
+-- A seat before anything happened.
+use Rattle.std.proofs.Common.{◌≡◌, ℕ, zero, suc, ◌≤◌, ◌==◌, ◌++◌, Option, Some, None, List, [], ◌∷◌, refl, sym, ap, ◌∙◌, subst, arith, cond, length, map, reverse}
+use Rattle.std.specs.Prelude.{option_to_list}
+use Rattle.std.specs.Ordering.{nat_cmp}
+use Rattle.std.specs.FinMap as fin_map
+use mathlib.Core.Path.{fun_ext}
+use Rattle.call_forward.specs.declared.letter.Letter.{Letter}
+use Rattle.node_event.specs.declared.script.ScriptLine.{ScriptLine}
+use Rattle.user_spec.specs.User.{UserState}
+use Rattle.kernel_spec.specs.Pids.{at_pid}
+use Rattle.deputy.specs.declared.row.Row.{Row}
+use Rattle.deputy.specs.Rows.{served_of}
+use Rattle.protocol.specs.Deeds.{all_noted}
+use Rattle.protocol.specs.Notes.{Post, Slot, Progress, no_progress}
+use Rattle.protocol.specs.Cluster.{Fresh}
+use Rattle.node_machine.specs.Plan.{Plan}
+use Rattle.node_machine.specs.Machine.{Policy, machine}
+use Rattle.node_core.specs.declared.shape.Shape.{Shape}
+use Rattle.node_core.specs.declared.node.Node.{Node}
+use Rattle.node_core.specs.Making.{new_node, new_course}
+use Rattle.node_core.specs.Locals.{local, post_of, slot_with, believed_of, progress_of}
+use Rattle.node_core.proofs.Starting.{new_suits_of}
+use Rattle.cluster_run.specs.declared.seat.Seat.{Seat}
+use Rattle.cluster_run.specs.declared.seat.Rest.{Rest}
+use Rattle.cluster_run.specs.declared.seat.Rest.TheVariants as rested
+use Rattle.cluster_run.specs.Sides.{towards}
+use Rattle.cluster_run.specs.Seats.{bound, waiting, Found, Ready}
+use Rattle.cluster_run.specs.Over.{IsFirst}
+use Rattle.cluster_run.proofs.Living.{nothing_if}
+
+no_row : (q : ℕ) → at_pid {A = Row} [] q ≡ None
+no_row zero = refl
+no_row (suc i) = refl
+
+module _ (policy : Policy) (plan : Plan) where
+  pub fresh_node : (k : ℕ) (shape : Shape) (script : List ScriptLine) (users : List UserState) → Fresh (machine policy plan) k (local policy plan (new_node k shape script users))
+  fresh_node k shape script users = record {
+    clock = refl;
+    slots = λ p. ap (λ (need : Option ℕ). slot_with policy plan None need (at_pid [] p)) (fin_map.get-empty nat_cmp p) ∙ ap (λ (row : Option Row). slot_with policy plan None None row) (no_row p);
+    gossip = refl;
+    home = λ e. record {
+      kernel = refl;
+      progress = ap (λ (f : ℕ → ℕ). record { line = 0; done = 0; launched = []; served = f }) (fun_ext (λ q. ap served_of (no_row q)));
+      believed = λ p. ap believed_of (no_row p);
+    };
+  }
+
+  pub ready_first : {C : Type 0} (puts gives : C → List Letter) (room k : ℕ) (s : Seat Node C) → IsFirst plan room k s.node → s.waits ≡ None → s.rest ≡ rested.Busy → ((m : ℕ) → towards puts s.side m ≡ []) → ((m : ℕ) → towards gives s.side m ≡ []) → Ready policy plan puts gives room k s
+  ready_first puts gives room k s f waits rest none_put none_given = record {
+    lives = record {
+      acts = [];
+      lone = subst (λ (n : Node). Fresh (machine policy plan) k (local policy plan n)) (sym f.made) (fresh_node k f.shape f.script f.users);
+      id = ap (λ (n : Node). n.id) f.made;
+      suits = new_suits_of plan k f.shape f.script f.users s.node f.made f.beginning;
+      room_is = ap (λ (n : Node). n.journal.room) f.made ∙ f.room_is;
+      fits = subst (λ (n : Node). length n.journal.events ≤ room) (sym f.made) (omega arith);
+      journal_is = ap (λ (n : Node). reverse (all_noted plan.script n.journal.events)) f.made;
+      strange = λ u. ap (λ (n : Node). n.strange) f.made;
+      mail = λ m. ap (λ (w : List Letter). map (post_of policy plan) (w ++ bound m (waiting s))) (none_put m) ∙ ap (λ (w : List Letter). map (post_of policy plan) (bound m w)) none_waits;
+      takes = λ marks m. ap (map (post_of policy plan)) (none_given m) ∙ sym (nothing_if (m == s.source));
+    };
+    found = subst (λ (a : Rest). Found policy plan k a (local policy plan s.node)) (sym rest) tt;
+  }
+    where
+      none_waits : waiting s ≡ []
+      none_waits = ap (λ (o : Option Letter). option_to_list o ++ s.node.outbox) waits ∙ ap (λ (n : Node). n.outbox) f.made

@@ -1,0 +1,35 @@
+-- The serial runner, from the nodes and carriers that it was given to the nodes that come back.
+use Rattle.std.proofs.Common.{◌≡◌, ℕ, ◌<◌, ◌≤◌, Some, List, sym, ap, ◌∙◌, subst, arith, length, map, slice_get}
+use Rattle.call_forward.specs.declared.letter.Letter.{Letter}
+use Rattle.node_links.specs.Sides.{InPairs, EachIs, IsFresh}
+use Rattle.node_links.specs.declared.side.Towards.{Towards}
+use Rattle.node_machine.specs.Plan.{Plan, IsPlan}
+use Rattle.node_machine.specs.Machine.{Policy}
+use Rattle.node_machine.specs.Policy.{IsFitting}
+use Rattle.node_core.specs.declared.node.Node.{Node}
+use Rattle.cluster_run.specs.declared.seat.Seat.{Seat}
+use Rattle.cluster_run.specs.declared.over.OverWhy.{OverWhy}
+use Rattle.cluster_run.specs.Standing.{AreLinked}
+use Rattle.cluster_run.specs.Passing.{AreWithin, AllReady}
+use Rattle.cluster_run.specs.Over.{Begins, RanAs}
+use Rattle.cluster_run.specs.Running.{AreOver}
+use Rattle.cluster_run.specs.Seating.{seats_of, node_of}
+use Rattle.cluster_run.proofs.Seated.{seats_count, linked_seats, within_seats, ready_seats}
+use Rattle.cluster_run.proofs.Stilled.{seat_at}
+
+module _ {C : Type 0} (pair : C → C → Type 0) (last : ℕ) (nodes : List Node) (carriers : List (List (Towards C))) (pairs : InPairs pair (length nodes) carriers) (seats : List (Seat Node C)) (is : seats ≡ seats_of last nodes carriers) where
+  pub seated_linked : AreLinked pair seats
+  seated_linked = subst (λ (w : List (Seat Node C)). AreLinked pair w) (sym is) (linked_seats pair last nodes carriers pairs)
+
+  pub seated_count : length seats ≡ length nodes
+  seated_count = ap length is ∙ seats_count last nodes carriers (sym pairs.count)
+
+  module _ (puts gives : C → List Letter) (total : C → ℕ) (fresh : EachIs (IsFresh puts gives total) carriers) (policy : Policy) (why : OverWhy) (new : List (Seat Node C)) (over : AreOver policy puts gives why seats new) (out : List Node) (out_is : out ≡ map node_of new) where
+    pub serial_ran : 1 ≤ length nodes → length nodes ≤ 8 → (plan : Plan) (room : ℕ) → Begins plan room nodes → IsFitting policy → RanAs policy plan room why out
+    serial_ran least most plan room begins fit =
+        let g = seat_at nodes 0 (omega (arith, least)) in
+        let is_plan : IsPlan plan = (begins.each 0 g.0 g.1).beginning.is_plan in
+        subst (λ (w : List Node). RanAs policy plan room why w) (sym out_is)
+        (over plan room is_plan fit (seated_count ∙ begins.count) (let c = seated_count in omega (arith, c, most))
+        (subst (λ (n : ℕ). AreWithin n seats) begins.count (subst (λ (w : List (Seat Node C)). AreWithin (length nodes) w) (sym is) (within_seats pair last nodes carriers pairs)))
+        (subst (λ (w : List (Seat Node C)). AllReady policy puts gives plan room w) (sym is) (ready_seats pair last nodes carriers pairs puts gives total fresh policy plan room begins)))

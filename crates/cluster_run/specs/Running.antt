@@ -1,0 +1,37 @@
+-- What a run makes of all seats.
+use Rattle.std.specs.Prelude.{◌≡◌, ℕ, ◌≤◌, Some, List, length, map, slice_get}
+use Rattle.call_forward.specs.declared.letter.Letter.{Letter}
+use Rattle.node_machine.specs.Plan.{Plan, IsPlan}
+use Rattle.node_machine.specs.Machine.{Policy}
+use Rattle.node_machine.specs.Policy.{IsFitting}
+use Rattle.node_core.specs.declared.node.Node.{Node}
+use Rattle.cluster_run.specs.declared.seat.Seat.{Seat}
+use Rattle.cluster_run.specs.declared.seat.Rest.{Rest}
+use Rattle.cluster_run.specs.declared.seat.Rest.TheVariants as rested
+use Rattle.cluster_run.specs.declared.over.OverWhy.{OverWhy}
+use Rattle.cluster_run.specs.declared.over.OverWhy.TheVariants as why
+use Rattle.cluster_run.specs.Passing.{AreWithin, AllReady, OneFull}
+use Rattle.cluster_run.specs.Over.{RanAs}
+
+-- why a run is over in which nothing is left to be done, by the last answer of home
+abbrev pub why_of : Rest → OverWhy
+why_of rested.Over = why.Done
+why_of rested.Idle = why.Stuck
+why_of rested.Busy = why.Stuck
+why_of rested.Full = why.Stuck
+why_of rested.NotBuilt = why.Stuck
+
+-- the run of seats that were ready is over
+abbrev pub AreOver : Policy → {C : Type 0} (puts gives : C → List Letter) → OverWhy → List (Seat Node C) → List (Seat Node C) → Type 0
+AreOver policy {C} puts gives why old new =
+    (plan : Plan) (room : ℕ) → IsPlan plan → IsFitting policy → length old ≡ plan.nodes → length old ≤ 8 → AreWithin plan.nodes old → AllReady policy puts gives plan room old → RanAs policy plan room why (map (λ (s : Seat Node C). s.node) new)
+
+pub record IsWhy {C : Type 0} (why : OverWhy) (seats : List (Seat Node C)) : Type 0 where
+  pub home : Seat Node C
+  pub is : slice_get seats 0 ≡ Some home
+  pub why_is : why ≡ why_of home.rest
+
+-- the run of seats of which one found its journal full is over
+abbrev pub AreFull : Policy → {C : Type 0} (puts gives : C → List Letter) → ℕ → OverWhy → List (Seat Node C) → List (Seat Node C) → Type 0
+AreFull policy {C} puts gives at why old new =
+    (plan : Plan) (room : ℕ) → IsPlan plan → IsFitting policy → length old ≡ plan.nodes → length old ≤ 8 → AreWithin plan.nodes old → OneFull policy puts gives plan room at old → RanAs policy plan room why (map (λ (s : Seat Node C). s.node) new)

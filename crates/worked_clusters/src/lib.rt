@@ -1,0 +1,5 @@
+// Runs of clusters, over rings.
+#![tactic(auto)]
+
+#[cfg(test)]
+mod one_node;
