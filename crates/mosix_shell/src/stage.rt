@@ -1,20 +1,24 @@
-// The run of a script by the processes of its `run` lines. So far one process runs on one node: another form is not built.
-ghost use Rattle.std.specs.Prelude.{◌≡◌, ◌∷◌, [], Err, IfOk, IfSome, IfNone, false, length, ◌==◌};
-ghost use Rattle.mosix_shell.specs.Stage.{are_built_settings, only_line, is_built_run, IsRun};
+// The run of a script by the processes of its `run` lines. So far a cluster has one node: another is not built.
+ghost use Rattle.std.specs.Prelude.{◌≡◌, ◌∷◌, ◌≤◌, Err, IfOk, IfSome, false, length};
+ghost use Rattle.node_machine.specs.Policy.{given_by};
+ghost use Rattle.mosix_shell.specs.Stage.{is_built, shape_of, first_nodes, plan_of, last_of, IsRun};
+ghost use Rattle.mosix_shell.specs.Ranges.{IsInRange};
+ghost use Rattle.node_machine.specs.Plan.{IsPlan};
 
-use crate::run::run_process;
+use crate::chance::seeds_of;
+use crate::copying::copied_script;
+use crate::left::told_by;
+use call_table::NoMemory;
+use cluster_run::{Nodes, OverWhy, run_serial};
 use mosix_words::Settings;
-use node_event::{Order, Script, ScriptLine};
-use shell_text::Run;
+use node_core::{Node, Plan, Shape};
+use node_event::{Script, ScriptLine};
+use node_links::ring_carriers;
+use policy_box::{Chooser, Policy};
+use rand_core::Rng;
+use shell_text::{Last, Run};
 use std::alloc::Global;
-use user_ctx::{User, Users};
-
-/// The number of nodes, the steps of a turn and the events of a journal that are built.
-const NODES: u8 = 1;
-
-const QUANTUM: u32 = 16_384;
-
-const JOURNAL: u32 = 262_144;
+use user_ctx::Users;
 
 /// Why there is no run.
 #[derive(Clone, Copy, Debug, PartialEq, Eq)]
@@ -23,66 +27,115 @@ pub enum Unrun {
     NoMemory,
 }
 
-fn are_built_settings(settings: &Settings) -> bool
-    ensures { result ≡ are_built_settings settings.now }
-{
-    if settings.nodes != NODES {
-        return false;
-    }
-    if settings.quantum != QUANTUM {
-        return false;
-    }
-    settings.journal == JOURNAL
-}
-
-/// The number of the one line that does something, where it launches.
-fn only_line(orders: &[ScriptLine]) -> Option<u32>
-    ensures { result ≡ only_line orders.now }
-{
-    match orders {
-        [ordered] => match ordered.order {
-            Order::Run { .. } => Some(ordered.line),
-            _ => None,
-        },
-        _ => None,
+impl From<NoMemory> for Unrun {
+    fn from(_e: NoMemory) -> Unrun {
+        Unrun::NoMemory
     }
 }
 
-/// The one process.
-fn only_user(users: Users) -> Option<User>
-    ensures some { IfSome result (λ user. users ≡ user ∷ []) }
-    ensures none { IfNone result ((length users == 1) ≡ false) }
+fn is_built(settings: &Settings) -> bool
+    ensures { result ≡ is_built settings.now }
 {
-    let mut users = users;
-    if users.len() != 1 {
-        return None;
-    }
-    users.pop()
+    settings.nodes == 1
 }
 
-#[tactic(auto, using(crate::proofs::Stages::settings_unbuilt, crate::proofs::Stages::line_unbuilt, crate::proofs::Stages::users_unbuilt, crate::proofs::Stages::story_unbuilt))]
+/// The shape of the cluster, with the seed of one node.
+fn shape_of(settings: &Settings, word: u64) -> Shape
+    ensures { result ≡ shape_of settings.now word }
+{
+    Shape {
+        nodes: settings.nodes,
+        cap: settings.pages,
+        quantum: settings.quantum,
+        journal: settings.journal,
+        word,
+    }
+}
+
+/// Home with the script and the processes of its `run` lines, and the other nodes.
+fn first_nodes(
+    alloc: Global,
+    settings: &Settings,
+    seeds: &[u64],
+    script: Script,
+    users: Users,
+) -> Result<Nodes, NoMemory>
+    requires least { 1 ≤ settings.now.nodes }
+    requires seeds { length seeds.now ≡ settings.now.nodes }
+    ensures { IfOk result (λ nodes. nodes ≡ first_nodes settings.now seeds.now script users) }
+{
+    let mut nodes = Nodes::new(alloc);
+    let plan = Plan { script, users };
+    nodes.push(Node::home(alloc, shape_of(settings, seeds[0]), plan)?)?;
+    for id in 1..settings.nodes {
+        let shape = shape_of(settings, seeds[id as usize]);
+        nodes.push(Node::away(alloc, id, shape)?)?;
+    }
+    Ok(nodes)
+}
+
+/// How a run ended. None exactly where a turn was not built.
+fn last_of(why: OverWhy) -> Option<Last>
+    ensures { result ≡ last_of why }
+{
+    match why {
+        OverWhy::Done => Some(Last::Done),
+        OverWhy::Stuck => Some(Last::Stuck),
+        OverWhy::Full { node } => Some(Last::Full(node)),
+        OverWhy::NotBuilt => None,
+    }
+}
+
+/// The nodes of a run before anything happened.
+fn staged<R: Rng>(
+    alloc: Global,
+    settings: &Settings,
+    orders: &[ScriptLine],
+    users: Users,
+    rng: &mut R,
+) -> Result<Nodes, NoMemory>
+    requires { 1 ≤ settings.now.nodes }
+    ensures { IfOk result (λ nodes. nodes ≡ first_nodes settings.now (seeds_of settings.now (R.stream rng.old)) orders.now users) }
+{
+    let seeds = seeds_of(alloc, settings, rng)?;
+    let script = copied_script(alloc, orders)?;
+    let nodes = first_nodes(alloc, settings, seeds.as_slice(), script, users)?;
+    Ok(nodes)
+}
+
+/// A run of orders by the processes of their `run` lines, from nodes that have done nothing to what they tell at its end.
+fn played<P: Chooser>(
+    alloc: Global,
+    settings: &Settings,
+    nodes: Nodes,
+    policy: &Policy<P>,
+) -> Result<Run, Unrun>
+{
+    let carriers = ring_carriers(alloc, settings.nodes)?;
+    let over = run_serial(alloc, nodes, carriers, policy)?;
+    match last_of(over.why) {
+        Some(last) => Ok(told_by(alloc, last, over.nodes)?),
+        None => Err(Unrun::NotBuilt),
+    }
+}
+
 /// A run of orders by the processes of their `run` lines. `NotBuilt` comes exactly where a run of them is not built.
-pub fn run_users(
+pub fn run_users<R: Rng, P: Chooser>(
     alloc: Global,
     settings: &Settings,
     orders: &Script,
     users: Users,
+    rng: &mut R,
+    policy: &Policy<P>,
 ) -> Result<Run, Unrun>
-    ensures run { IfOk result (IsRun settings.now orders.now users) }
-    ensures unbuilt { result ≡ Err Unrun.NotBuilt → is_built_run settings.now orders.now users ≡ false }
+    requires range { IsInRange settings.now }
+    requires plan { IsPlan (plan_of (R.stream rng.old) settings.now orders.now users) }
+    ensures run { IfOk result (IsRun (given_by (P.answers policy.now)) (R.stream rng.old) settings.now orders.now users) }
+    ensures unbuilt { result ≡ Err Unrun.NotBuilt → is_built settings.now ≡ false }
 {
-    if !are_built_settings(settings) {
+    if !is_built(settings) {
         return Err(Unrun::NotBuilt);
     }
-    let Some(line) = only_line(orders.as_slice()) else {
-        return Err(Unrun::NotBuilt);
-    };
-    let Some(user) = only_user(users) else {
-        return Err(Unrun::NotBuilt);
-    };
-    match run_process(alloc, line, user) {
-        Ok(Some(run)) => Ok(run),
-        Ok(None) => Err(Unrun::NotBuilt),
-        Err(_) => Err(Unrun::NoMemory),
-    }
+    let nodes = staged(alloc, settings, orders.as_slice(), users, rng)?;
+    played(alloc, settings, nodes, policy)
 }
