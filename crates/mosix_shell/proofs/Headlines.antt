@@ -1,5 +1,5 @@
 -- What a run tells of the nodes that come back from it is the headline.
-use Rattle.std.proofs.Common.{◌≡◌, ℕ, ◌≤◌, List, length, reverse, refl, sym, ap, ◌∙◌, subst, Option, Some, None}
+use Rattle.std.proofs.Common.{◌≡◌, ℕ, ◌≤◌, List, [], ◌∷◌, length, reverse, refl, sym, ap, ◌∙◌, subst, arith, Option, Some, None}
 use Rattle.std.specs.Prelude.{slice_get}
 use Rattle.call_table.specs.declared.process.PidState.{PidState}
 use Rattle.fs_memory.specs.Files.{named_files}
@@ -13,12 +13,12 @@ use Rattle.node_core.specs.declared.node.Node.{Node}
 use Rattle.node_core.specs.Locals.{local}
 use Rattle.cluster_run.specs.declared.over.OverWhy.{OverWhy}
 use Rattle.cluster_run.specs.declared.over.OverWhy.TheVariants as why
-use Rattle.cluster_run.specs.Over.{AreWoven, IsOver, Ran}
+use Rattle.cluster_run.specs.Over.{AreWoven, IsOver, Ran, RanAs}
 use Rattle.shell_text.specs.declared.run.Last.{Last}
 use Rattle.shell_text.specs.declared.run.Last.TheVariants as last
 use Rattle.shell_text.specs.declared.run.Run.{Run}
 use Rattle.mosix_shell.specs.Headline.{replies_given, history, status_at, Tells, EndsAs, Headline}
-use Rattle.mosix_shell.specs.Left.{states_at, TellsEnd}
+use Rattle.mosix_shell.specs.Left.{HasHome, states_at, TellsEnd}
 use Rattle.mosix_shell.specs.Stage.{last_of}
 use Rattle.mosix_shell.proofs.Weaves.{are_woven, most_events}
 use Rattle.mosix_shell.proofs.Replies.{replies_told}
@@ -92,3 +92,18 @@ module _ (policy : Policy) (plan : Plan) (room : ℕ) (nodes : List Node) (run :
   headline answer l e ran tells most =
       let woven = are_woven plan nodes run.events (tells.rising ran.journals) (tells.own ran.journals) in
       by_why answer l e (ran.over (reverse run.events) woven) tells woven most
+
+  -- ---- the nodes that come back from a run
+
+  pub ran_of : (answer : OverWhy) (l : Last) → last_of answer ≡ Some l → RanAs policy plan room answer nodes → Ran policy plan room answer nodes
+  ran_of why.Done l e ran = ran
+  ran_of why.Stuck l e ran = ran
+  ran_of (why.Full n) l e ran = ran
+  ran_of why.NotBuilt l e ran = absurd cc
+
+  first_is : (xs : List Node) → 1 ≤ length xs → ((k : ℕ) (n : Node) → slice_get xs k ≡ Some n → n.id ≡ k) → HasHome xs
+  first_is [] more ids = absurd (omega (arith, more))
+  first_is (x ∷ xs) more ids = record { home = x; first = refl; is_home = ids 0 x refl }
+
+  pub has_home : (answer : OverWhy) (l : Last) → last_of answer ≡ Some l → RanAs policy plan room answer nodes → 1 ≤ length nodes → HasHome nodes
+  has_home answer l e ran more = first_is nodes more (λ k n at. ((ran_of answer l e ran).places k n at).0)

@@ -53,7 +53,7 @@ begins chance settings orders users nodes range is_plan made = subst (Begins (pl
       shape = shape_of settings (slice_index (seeds_of settings chance) (suc k));
       script = [];
       users = [];
-      made = made ∙ ap (λ (i : ℕ). new_node i (shape_of settings (slice_index (seeds_of settings chance) i)) [] []) (omega arith);
+      made = let there : 1 + k ≡ suc k = omega arith in made ∙ ap (λ (i : ℕ). new_node i (shape_of settings (slice_index (seeds_of settings chance) i)) [] []) there;
       beginning = record { is_plan = is_plan; below = less; shape_is = shaped (slice_index (seeds_of settings chance) (suc k)); script_is = λ z. absurd (omega (arith, z)); users_is = λ z. absurd (omega (arith, z)); words = λ j. refl };
       room_is = refl;
     }
@@ -64,7 +64,7 @@ begins chance settings orders users nodes range is_plan made = subst (Begins (pl
       script = orders;
       users = users;
       made = let same : new_node 0 (shape_of settings (slice_index (seeds_of settings chance) 0)) orders users ≡ n = cc in sym same;
-      beginning = record { is_plan = is_plan; below = range.least_nodes; shape_is = shaped (slice_index (seeds_of settings chance) 0); script_is = λ z. refl; users_is = λ z. refl; words = λ j. refl };
+      beginning = record { is_plan = is_plan; below = omega (arith, range.least_nodes); shape_is = shaped (slice_index (seeds_of settings chance) 0); script_is = λ z. refl; users_is = λ z. refl; words = λ j. refl };
       room_is = refl;
     }
     each (suc k) n e =

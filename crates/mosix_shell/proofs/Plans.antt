@@ -1,5 +1,5 @@
 -- A script that was read and the processes that were loaded for its `run` lines are a plan.
-use Rattle.std.proofs.Common.{◌≡◌, ℕ, zero, suc, ◌+◌, ◌≤◌, ◌<◌, List, [], ◌∷◌, ◌++◌, length, refl, ap, ◌∙◌, sym, subst, arith, Option, Some, None, Result, Ok, Err, Bool, true, false, cond, nat_lt}
+use Rattle.std.proofs.Common.{◌≡◌, ℕ, zero, suc, ◌+◌, ◌*◌, ◌/◌, ◌≤◌, ◌<◌, List, [], ◌∷◌, ◌++◌, length, refl, ap, ◌∙◌, sym, subst, arith, Option, Some, None, Result, Ok, Err, Bool, true, false, cond, nat_lt}
 use Rattle.std.specs.Prelude.{slice_get, slice_set, replicate}
 use Rattle.std.specs.Option.{option_or}
 use Rattle.std.specs.FinMap as map
@@ -89,7 +89,7 @@ one_in line (order.Slots count) = refl
 
 runs_counted : (orders : List ScriptLine) → length (runs_of orders) ≡ run_count orders
 runs_counted [] = refl
-runs_counted (l ∷ ls) = let one = one_in l.line l.order in let more = runs_counted ls in let both = length-append {A = RunLine} {s = run_in l.line l.order} {t = runs_of ls} in omega (arith, one, more, both)
+runs_counted (l ∷ ls) = let one = one_in l.line l.order in let more = runs_counted ls in let both = length-append (run_in l.line l.order) (runs_of ls) in omega (arith, one, more, both)
 
 as_many : (runs : List RunLine) (users : List UserState) → AreSomeImages runs users → length users ≡ length runs
 as_many [] [] h = refl

@@ -1,5 +1,5 @@
 -- Words give values that are in their ranges.
-use Rattle.std.proofs.Common.{◌≡◌, ◌×◌, ℕ, ◌≤◌, ◌^◌, ◌-◌, List, length, refl, sym, subst, arith, Option, Some, None, Bool, true, false, cond, nat_lt, nat_le, ◌==◌}
+use Rattle.std.proofs.Common.{◌≡◌, ℕ, ◌≤◌, List, length, refl, sym, subst, arith, Option, Some, None, Bool, true, false, cond, nat_lt, nat_le, ◌==◌}
 use Rattle.std.specs.Prelude.{codes}
 use Rattle.std.specs.Str.Parse.{digits_value}
 use Rattle.std.proofs.lemmas.Bool.Decides.{nat_tests}

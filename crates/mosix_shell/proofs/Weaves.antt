@@ -35,7 +35,7 @@ all_below count (e ∷ es) h = (here, all_below count es (λ n m. absent_tail n 
     here : e.node < count
     here = elim (cases_lt e.node count) [
       | inl less ↦ less
-      | inr more ↦ absurd (absent_head e (own_events e.node es) (nat_eq e.node e.node) (eq-eqb e.node refl) (h e.node more))
+      | inr more ↦ absurd (absent_head e (own_events e.node es) (nat_eq e.node e.node) (eq-eqb e.node e.node refl) (h e.node more))
     ]
 
 no_journal : (n : ℕ) (journals : List JournalState) → length journals ≤ n → events_at n journals ≡ []

@@ -10,5 +10,6 @@ pub mod Ranges
 pub mod Reading
 pub mod Stage
 pub mod Told
+pub mod Ushering
 pub mod Why
 pub mod Writing

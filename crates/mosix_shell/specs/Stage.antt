@@ -14,6 +14,7 @@ use Rattle.node_core.specs.Making.{seeded, new_node}
 use Rattle.node_core.specs.Suits.{word_after}
 use Rattle.cluster_run.specs.declared.over.OverWhy.{OverWhy}
 use Rattle.cluster_run.specs.declared.over.OverWhy.TheVariants as why
+use Rattle.cluster_run.specs.Over.{Begins}
 use Rattle.shell_text.specs.declared.run.Last.{Last}
 use Rattle.shell_text.specs.declared.run.Last.TheVariants as last
 use Rattle.shell_text.specs.declared.run.Run.{Run}
@@ -49,6 +50,12 @@ away_nodes settings seeds id (suc n) = new_node id (shape_of settings (slice_ind
 -- home has the script and the processes of its `run` lines
 abbrev pub first_nodes : Settings → List ℕ → List ScriptLine → List UserState → List Node
 first_nodes settings seeds orders users = new_node 0 (shape_of settings (slice_index seeds 0)) orders users ∷ away_nodes settings seeds 1 (settings.nodes - 1)
+
+-- the nodes begin a run of some plan
+pub record BeginsSome (nodes : List Node) : Type 0 where
+  pub plan : Plan
+  pub room : ℕ
+  pub begins : Begins plan room nodes
 
 -- how a run ended, by why it is over
 abbrev pub last_of : OverWhy → Option Last

@@ -11,4 +11,5 @@ pub mod orders;
 pub mod reading;
 pub mod stage;
 pub mod status;
+pub mod usher;
 pub mod why;

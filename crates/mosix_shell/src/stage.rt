@@ -1,9 +1,11 @@
 // The run of a script by the processes of its `run` lines. So far a cluster has one node: another is not built.
-ghost use Rattle.std.specs.Prelude.{◌≡◌, ◌∷◌, ◌≤◌, Err, IfOk, IfSome, false, length};
+ghost use Rattle.std.specs.Prelude.{◌≡◌, ◌≤◌, ℕ, Err, IfOk, false, length};
 ghost use Rattle.node_machine.specs.Policy.{given_by};
-ghost use Rattle.mosix_shell.specs.Stage.{is_built, shape_of, first_nodes, plan_of, last_of, IsRun};
+ghost use Rattle.node_machine.specs.Plan.{Plan as run_plan, IsPlan};
+ghost use Rattle.cluster_run.specs.Over.{Begins};
+ghost use Rattle.mosix_shell.specs.Headline.{Headline};
+ghost use Rattle.mosix_shell.specs.Stage.{is_built, shape_of, seeds_of, first_nodes, plan_of, last_of, BeginsSome, IsRun};
 ghost use Rattle.mosix_shell.specs.Ranges.{IsInRange};
-ghost use Rattle.node_machine.specs.Plan.{IsPlan};
 
 use crate::chance::seeds_of;
 use crate::copying::copied_script;
@@ -103,13 +105,17 @@ fn staged<R: Rng>(
     Ok(nodes)
 }
 
-/// A run of orders by the processes of their `run` lines, from nodes that have done nothing to what they tell at its end.
+/// The run of nodes that have done nothing, to what they tell at its end.
 fn played<P: Chooser>(
     alloc: Global,
     settings: &Settings,
     nodes: Nodes,
     policy: &Policy<P>,
 ) -> Result<Run, Unrun>
+    requires range { IsInRange settings.now }
+    requires count { length nodes ≡ settings.now.nodes }
+    requires begins { BeginsSome nodes }
+    ensures { IfOk result (λ run. (plan : run_plan) (room : ℕ) → Begins plan room nodes → Headline (given_by (P.answers policy.now)) plan room run) }
 {
     let carriers = ring_carriers(alloc, settings.nodes)?;
     let over = run_serial(alloc, nodes, carriers, policy)?;

@@ -2,10 +2,9 @@
 #![tactic(auto)]
 
 use call_table::{NoMemory, Text, Words};
-use mosix_shell::mosix::mosix;
 use mosix_shell::status;
+use mosix_shell::usher::mosix_usher;
 use outside::{FileImages, StdSink, StdSource};
-use policy_box::usher_policy;
 use rand_core::SeedableRng;
 use rand_pcg::Pcg32;
 use std::alloc::Global;
@@ -41,14 +40,6 @@ fn main(rt: HostRuntime) -> ExitCode {
     let mut images = FileImages::new(rt.clone().unwrap());
     let mut sink = StdSink::new(io::writer(&rt));
     let mut rng = Pcg32::seed_from_u64(SEED);
-    let ended = mosix(
-        alloc,
-        &words,
-        &mut source,
-        &mut images,
-        &mut sink,
-        &mut rng,
-        &usher_policy(),
-    );
+    let ended = mosix_usher(alloc, &words, &mut source, &mut images, &mut sink, &mut rng);
     ExitCode::from(ended.status)
 }
