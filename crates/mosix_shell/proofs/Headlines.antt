@@ -44,16 +44,16 @@ module _ (policy : Policy) (plan : Plan) (room : ℕ) (nodes : List Node) (run :
         ∙ (replies_told (machine policy plan) run.events over.holds.lawful.script
         ∙ (over.holds.replays.replies ∙ ap (λ (m : MachineState (machine policy plan)). m.replies) machine_is))
 
-    told_is : states_at l tells.home.deputies ≡ statuses_to (status_at policy plan l over.ending.machine) (given over.ending.machine.kernel) → Tells policy plan run over.ending.machine
+    told_is : states_at l tells.home.deputies ≡ statuses_to (machine policy plan) (status_at policy plan l over.ending.machine) (given over.ending.machine.kernel) → Tells policy plan run over.ending.machine
     told_is states = record {
-      statuses_are = tells.statuses_are ∙ (states ∙ ap (λ (x : Last). statuses_to (status_at policy plan x over.ending.machine) (given over.ending.machine.kernel)) (sym tells.last_is));
+      statuses_are = tells.statuses_are ∙ (states ∙ ap (λ (x : Last). statuses_to (machine policy plan) (status_at policy plan x over.ending.machine) (given over.ending.machine.kernel)) (sym tells.last_is));
       terminal_is = tells.terminal_is ∙ ap (λ (k : KernelState). k.terminal) kernel_is;
       files_are = tells.files_are ∙ ap (λ (k : KernelState). named_files k.io.files) kernel_is;
       replies_are = replies_are;
     }
 
     so_far : AreWoven plan nodes (reverse run.events) → ((k : ℕ) (n : Node) → slice_get nodes k ≡ Some n → length n.journal.events ≤ room)
-        → states_at l tells.home.deputies ≡ statuses_to (status_at policy plan l over.ending.machine) (given over.ending.machine.kernel)
+        → states_at l tells.home.deputies ≡ statuses_to (machine policy plan) (status_at policy plan l over.ending.machine) (given over.ending.machine.kernel)
         → EndsAs policy plan room l (history policy plan run) over.ending.machine over.world → Headline policy plan room run
     so_far woven most states ends = record {
       ordered = record { sorted = woven.sorted; most = most_events plan nodes room (reverse run.events) woven most };
@@ -93,17 +93,27 @@ module _ (policy : Policy) (plan : Plan) (room : ℕ) (nodes : List Node) (run :
       let woven = are_woven plan nodes run.events (tells.rising ran.journals) (tells.own ran.journals) in
       by_why answer l e (ran.over (reverse run.events) woven) tells woven most
 
-  -- ---- the nodes that come back from a run
+-- ---- the nodes that come back from a run
 
-  pub ran_of : (answer : OverWhy) (l : Last) → last_of answer ≡ Some l → RanAs policy plan room answer nodes → Ran policy plan room answer nodes
+first_is : (xs : List Node) → 1 ≤ length xs → ((k : ℕ) (n : Node) → slice_get xs k ≡ Some n → n.id ≡ k) → HasHome xs
+first_is [] more ids = absurd (omega (arith, more))
+first_is (x ∷ xs) more ids = record { home = x; first = refl; is_home = ids 0 x refl }
+
+pub not_built : (answer : OverWhy) → last_of answer ≡ None → answer ≡ why.NotBuilt
+not_built why.Done e = absurd cc
+not_built why.Stuck e = absurd cc
+not_built (why.Full n) e = absurd cc
+not_built why.NotBuilt e = refl
+
+module _ (policy : Policy) (plan : Plan) (room : ℕ) (nodes : List Node) where
+  ran_of : (answer : OverWhy) (l : Last) → last_of answer ≡ Some l → RanAs policy plan room answer nodes → Ran policy plan room answer nodes
   ran_of why.Done l e ran = ran
   ran_of why.Stuck l e ran = ran
   ran_of (why.Full n) l e ran = ran
   ran_of why.NotBuilt l e ran = absurd cc
 
-  first_is : (xs : List Node) → 1 ≤ length xs → ((k : ℕ) (n : Node) → slice_get xs k ≡ Some n → n.id ≡ k) → HasHome xs
-  first_is [] more ids = absurd (omega (arith, more))
-  first_is (x ∷ xs) more ids = record { home = x; first = refl; is_home = ids 0 x refl }
-
   pub has_home : (answer : OverWhy) (l : Last) → last_of answer ≡ Some l → RanAs policy plan room answer nodes → 1 ≤ length nodes → HasHome nodes
   has_home answer l e ran more = first_is nodes more (λ k n at. ((ran_of answer l e ran).places k n at).0)
+
+  pub told_headline : (answer : OverWhy) (l : Last) (run : Run) → last_of answer ≡ Some l → RanAs policy plan room answer nodes → TellsEnd nodes l run → Headline policy plan room run
+  told_headline answer l run e ran tells = let r = ran_of answer l e ran in headline policy plan room nodes run answer l e r tells (λ k n at. (r.places k n at).1)

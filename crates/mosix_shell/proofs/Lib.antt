@@ -6,6 +6,7 @@ pub mod Ranges
 pub mod Plans
 pub mod Loading
 pub mod Weaves
+pub mod Telling
 pub mod Replies
 pub mod Statuses
 pub mod Headlines

@@ -7,6 +7,7 @@ use Rattle.kernel_spec.specs.Kernel.{KernelState, given, end_at, is_live}
 use Rattle.deputy.specs.declared.row.HeldCall.{HeldCall}
 use Rattle.deputy.specs.Rows.{held_at}
 use Rattle.deputy.specs.Moves.{held_number}
+use Rattle.protocol.specs.Ops.{Ops}
 use Rattle.protocol.specs.Deeds.{Noted}
 use Rattle.protocol.specs.Notes.{Called, Slot, Local}
 use Rattle.protocol.specs.Cluster.{World}
@@ -21,12 +22,12 @@ use Rattle.node_core.specs.Locals.{called_of, local}
 use Rattle.shell_text.specs.declared.run.Last.{Last}
 use Rattle.shell_text.specs.declared.run.Last.TheVariants as last
 use Rattle.mosix_shell.specs.Headline.{status_at}
-use Rattle.mosix_shell.specs.Left.{going_state, state_at, states_at}
+use Rattle.mosix_shell.specs.Left.{going_state, state_at, states_to, states_at}
 use Rattle.mosix_shell.proofs.Truth.{true_false}
 
-each_same : (f g : ℕ → PidState) → ((p : ℕ) → f p ≡ g p) → (n : ℕ) → statuses_to f n ≡ statuses_to g n
-each_same f g h zero = refl
-each_same f g h (suc n) = ap (λ (x : PidState). statuses_to f n ++ (suc n, x) ∷ []) (h (suc n)) ∙ ap (λ (xs : List (ℕ × PidState)). xs ++ (suc n, g (suc n)) ∷ []) (each_same f g h n)
+each_same : (O : Ops) (f g : ℕ → PidState) → ((p : ℕ) → f p ≡ g p) → (n : ℕ) → states_to f n ≡ statuses_to O g n
+each_same O f g h zero = refl
+each_same O f g h (suc n) = ap (λ (x : PidState). states_to f n ++ (suc n, x) ∷ []) (h (suc n)) ∙ ap (λ (xs : List (ℕ × PidState)). xs ++ (suc n, g (suc n)) ∷ []) (each_same O f g h n)
 
 cond_same : (b c : Bool) (x y e f : PidState) → b ≡ c → (c ≡ true → x ≡ y) → e ≡ f → cond b x e ≡ cond c y f
 cond_same b true x y e f s t u = ap (λ (k : Bool). cond k x e) s ∙ t refl
@@ -62,14 +63,14 @@ module _ (policy : Policy) (plan : Plan) where
     full_at : (n p : ℕ) → state_at (last.Full n) home.deputies p ≡ status_cut (machine policy plan) ending.machine p
     full_at n p = by_live states.Live states.Live p (λ live. refl)
 
-    all_states : (l : Last) → ((p : ℕ) → state_at l home.deputies p ≡ status_at policy plan l ending.machine p) → states_at l home.deputies ≡ statuses_to (status_at policy plan l ending.machine) (given ending.machine.kernel)
-    all_states l h = ap (statuses_to (state_at l home.deputies)) (ap given kernel) ∙ each_same (state_at l home.deputies) (status_at policy plan l ending.machine) h (given ending.machine.kernel)
+    all_states : (l : Last) → ((p : ℕ) → state_at l home.deputies p ≡ status_at policy plan l ending.machine p) → states_at l home.deputies ≡ statuses_to (machine policy plan) (status_at policy plan l ending.machine) (given ending.machine.kernel)
+    all_states l h = ap (states_to (state_at l home.deputies)) (ap given kernel) ∙ each_same (machine policy plan) (state_at l home.deputies) (status_at policy plan l ending.machine) h (given ending.machine.kernel)
 
-    pub done_states : IsDone (machine policy plan) es ending.machine → states_at last.Done home.deputies ≡ statuses_to (status_at policy plan last.Done ending.machine) (given ending.machine.kernel)
+    pub done_states : IsDone (machine policy plan) es ending.machine → states_at last.Done home.deputies ≡ statuses_to (machine policy plan) (status_at policy plan last.Done ending.machine) (given ending.machine.kernel)
     done_states d = all_states last.Done (done_at d)
 
-    pub stuck_states : AllRest (machine policy plan) w → states_at last.Stuck home.deputies ≡ statuses_to (status_at policy plan last.Stuck ending.machine) (given ending.machine.kernel)
+    pub stuck_states : AllRest (machine policy plan) w → states_at last.Stuck home.deputies ≡ statuses_to (machine policy plan) (status_at policy plan last.Stuck ending.machine) (given ending.machine.kernel)
     stuck_states rest = all_states last.Stuck (stuck_at rest)
 
-    pub full_states : (n : ℕ) → states_at (last.Full n) home.deputies ≡ statuses_to (status_at policy plan (last.Full n) ending.machine) (given ending.machine.kernel)
+    pub full_states : (n : ℕ) → states_at (last.Full n) home.deputies ≡ statuses_to (machine policy plan) (status_at policy plan (last.Full n) ending.machine) (given ending.machine.kernel)
     full_states n = all_states (last.Full n) (full_at n)

@@ -104,7 +104,7 @@ are_woven plan nodes events rising own = record {
       ∙ (ap (all_noted plan.script) (own_reversed k events ∙ ap reverse (own k ∙ journal_at k nodes n at))
       ∙ noted_reversed plan.script n.journal.events);
   below = each_reversed plan.script (λ e. e.node < length nodes) (λ e. e.node < length nodes) (λ e h. h) events
-      (all_below (length nodes) events (λ n more. own n ∙ no_journal n (journals_of nodes) (omega (arith, more, length-map (λ (x : Node). x.journal) nodes))));
+      (all_below (length nodes) events (λ n more. own n ∙ no_journal n (journals_of nodes) (omega (arith, more, length-map nodes (λ (x : Node). x.journal)))));
 }
 
 -- ---- how many events a node has
@@ -128,7 +128,7 @@ pub most_events : (plan : Plan) (nodes : List Node) (room : ℕ) (es : List Even
 most_events plan nodes room es woven most n = go (slice_get_cases nodes n).1
   where
     here : (x : Node) → slice_get nodes n ≡ Some x → length (laws.own_events n (all_noted plan.script es)) ≤ room
-    here x at = let same = ap length (woven.own n x at) ∙ (length-reverse (all_noted plan.script x.journal.events) ∙ length-map (λ (e : Event). noted plan.script e) x.journal.events) in omega (arith, same, most n x at)
+    here x at = let same = ap length (woven.own n x at) ∙ (length-reverse (all_noted plan.script x.journal.events) ∙ length-map x.journal.events (λ (e : Event). noted plan.script e)) in omega (arith, same, most n x at)
 
     past : length nodes ≤ n → length (laws.own_events n (all_noted plan.script es)) ≤ room
     past more =

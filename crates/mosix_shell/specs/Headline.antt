@@ -47,7 +47,7 @@ module _ (policy : Policy) (plan : Plan) where
 
   -- the run tells what the machine has: the status of each pid ever given, the terminal, the files and the replies
   pub record Tells (run : Run) (m : MachineState (machine policy plan)) : Type 0 where
-    pub statuses_are : run.statuses ≡ statuses_to (status_at run.last m) ((machine policy plan).count m.kernel)
+    pub statuses_are : run.statuses ≡ statuses_to (machine policy plan) (status_at run.last m) ((machine policy plan).count m.kernel)
     pub terminal_is : run.terminal ≡ m.kernel.terminal
     pub files_are : run.files ≡ named_files m.kernel.io.files
     pub replies_are : replies_given run.replies ≡ m.replies

@@ -1,5 +1,5 @@
 -- What home and the journals of the nodes tell at the end of a run.
-use Rattle.std.specs.Prelude.{◌≡◌, ℕ, cond, Option, Some, None, List, map, slice_get, filter_map}
+use Rattle.std.specs.Prelude.{◌≡◌, ℕ, zero, suc, cond, [], ◌∷◌, ◌++◌, Option, Some, None, List, map, slice_get, filter_map}
 use Rattle.call_table.specs.declared.process.PidState.{PidState}
 use Rattle.call_table.specs.declared.process.PidState.TheVariants as states
 use Rattle.call_table.specs.declared.process.Reply3.{Reply3}
@@ -11,7 +11,7 @@ use Rattle.fs_memory.specs.Files.{named_files}
 use Rattle.kernel_spec.specs.Kernel.{given, end_at, is_live}
 use Rattle.deputy.specs.Rows.{HomeState, held_at}
 use Rattle.deputy.specs.Moves.{held_number}
-use Rattle.run_laws.specs.Ends.{end_state, live_state, statuses_to}
+use Rattle.run_laws.specs.Ends.{end_state, live_state}
 use Rattle.node_core.specs.declared.node.Node.{Node}
 use Rattle.weave.specs.Weaves.{AreJournals, IsRising, own_events, events_at}
 use Rattle.shell_text.specs.declared.run.Last.{Last}
@@ -28,9 +28,13 @@ going_state last.Stuck held = live_state held
 abbrev pub state_at : Last → HomeState → ℕ → PidState
 state_at last home pid = cond (is_live home.kernel pid) (going_state last (held_number (held_at home.rows pid))) (end_state (end_at home.kernel pid))
 
+abbrev pub states_to : (ℕ → PidState) → ℕ → List (ℕ × PidState)
+states_to state zero = []
+states_to state (suc p) = states_to state p ++ (suc p, state (suc p)) ∷ []
+
 -- of each pid ever given
 abbrev pub states_at : Last → HomeState → List (ℕ × PidState)
-states_at last home = statuses_to (state_at last home) (given home.kernel)
+states_at last home = states_to (state_at last home) (given home.kernel)
 
 -- the reply of a call that was served
 abbrev pub reply_in : What → Option Reply3
@@ -39,6 +43,11 @@ reply_in _ = None
 
 abbrev pub reply_of : Event → Option Reply3
 reply_of e = reply_in e.what
+
+-- after those of the events before
+abbrev pub and_reply : List Reply3 → Option Reply3 → List Reply3
+and_reply replies None = replies
+and_reply replies (Some reply) = replies ++ reply ∷ []
 
 abbrev pub replies_in : List Event → List Reply3
 replies_in events = filter_map reply_of events

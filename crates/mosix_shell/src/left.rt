@@ -1,7 +1,7 @@
 // What a run left: as home has it, and as the journals of the nodes tell it.
-ghost use Rattle.std.specs.Prelude.{◌≡◌, IfOk};
+ghost use Rattle.std.specs.Prelude.{◌≡◌, IfOk, OnOk};
 ghost use Rattle.run_laws.specs.Ends.{end_state, live_state};
-ghost use Rattle.mosix_shell.specs.Left.{going_state, state_at, states_at, reply_in, replies_in, journals_of, HasHome, IsHomeOf, HomeTells, TellsEnd};
+ghost use Rattle.mosix_shell.specs.Left.{going_state, state_at, states_at, reply_in, reply_of, and_reply, replies_in, journals_of, HasHome, IsHomeOf, HomeTells, TellsEnd};
 
 use call_table::{Bytes, End, NamedFiles, NoMemory, PidState, Replies, Reply3, Statuses};
 use cluster_run::Nodes;
@@ -99,14 +99,24 @@ fn reply_in(what: &What) -> Option<Reply3>
     }
 }
 
+/// The reply that an event tells, if it does, after the others.
+fn add_reply(replies: &mut Replies, event: &Event) -> Result<(), NoMemory>
+    ensures { OnOk result (replies.new ≡ and_reply replies.old (reply_of event.now)) }
+{
+    match reply_in(&event.what) {
+        Some(reply) => replies.push(reply)?,
+        None => {}
+    }
+    Ok(())
+}
+
+#[tactic(auto, using(crate::proofs::Telling::reply_next))]
 fn replies_in(alloc: Global, events: &[Event]) -> Result<Replies, NoMemory>
     ensures { IfOk result (λ replies. replies ≡ replies_in events.now) }
 {
     let mut replies = Replies::new(alloc);
     for event in events {
-        if let Some(reply) = reply_in(&event.what) {
-            replies.push(reply)?;
-        }
+        add_reply(&mut replies, event)?;
     }
     Ok(replies)
 }

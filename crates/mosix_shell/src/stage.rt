@@ -1,5 +1,5 @@
 // The run of a script by the processes of its `run` lines. So far a cluster has one node: another is not built.
-ghost use Rattle.std.specs.Prelude.{◌≡◌, ◌≤◌, ℕ, Err, IfOk, false, length};
+ghost use Rattle.std.specs.Prelude.{◌≡◌, ◌≤◌, ℕ, None, Err, IfOk, IfSome, false, length};
 ghost use Rattle.node_machine.specs.Policy.{given_by};
 ghost use Rattle.node_machine.specs.Plan.{Plan as run_plan, IsPlan};
 ghost use Rattle.cluster_run.specs.Over.{Begins};
@@ -27,12 +27,6 @@ use user_ctx::Users;
 pub enum Unrun {
     NotBuilt,
     NoMemory,
-}
-
-impl From<NoMemory> for Unrun {
-    fn from(_e: NoMemory) -> Unrun {
-        Unrun::NoMemory
-    }
 }
 
 fn is_built(settings: &Settings) -> bool
@@ -89,6 +83,7 @@ fn last_of(why: OverWhy) -> Option<Last>
 }
 
 /// The nodes of a run before anything happened.
+#[tactic(auto, using(crate::proofs::Telling::words_count))]
 fn staged<R: Rng>(
     alloc: Global,
     settings: &Settings,
@@ -105,24 +100,27 @@ fn staged<R: Rng>(
     Ok(nodes)
 }
 
-/// The run of nodes that have done nothing, to what they tell at its end.
+/// The run of nodes that have done nothing, to what they tell at its end. None where a turn was not built.
 fn played<P: Chooser>(
     alloc: Global,
     settings: &Settings,
     nodes: Nodes,
     policy: &Policy<P>,
-) -> Result<Run, Unrun>
+) -> Result<Option<Run>, NoMemory>
     requires range { IsInRange settings.now }
     requires count { length nodes ≡ settings.now.nodes }
     requires begins { BeginsSome nodes }
-    ensures { IfOk result (λ run. (plan : run_plan) (room : ℕ) → Begins plan room nodes → Headline (given_by (P.answers policy.now)) plan room run) }
+    ensures whole { IfOk result (λ whole. IfSome whole (λ run. (plan : run_plan) (room : ℕ) → Begins plan room nodes → Headline (given_by (P.answers policy.now)) plan room run)) }
+    ensures built { IfOk result (λ whole. whole ≡ None → settings.now.nodes ≡ 1 → ⊥) }
 {
+    policy.is_fitting();
     let carriers = ring_carriers(alloc, settings.nodes)?;
     let over = run_serial(alloc, nodes, carriers, policy)?;
-    match last_of(over.why) {
-        Some(last) => Ok(told_by(alloc, last, over.nodes)?),
-        None => Err(Unrun::NotBuilt),
-    }
+    let Some(last) = last_of(over.why) else {
+        return Ok(None);
+    };
+    let told = told_by(alloc, last, over.nodes)?;
+    Ok(Some(told))
 }
 
 /// A run of orders by the processes of their `run` lines. `NotBuilt` comes exactly where a run of them is not built.
@@ -142,6 +140,13 @@ pub fn run_users<R: Rng, P: Chooser>(
     if !is_built(settings) {
         return Err(Unrun::NotBuilt);
     }
-    let nodes = staged(alloc, settings, orders.as_slice(), users, rng)?;
-    played(alloc, settings, nodes, policy)
+    let nodes = match staged(alloc, settings, orders.as_slice(), users, rng) {
+        Ok(nodes) => nodes,
+        Err(_) => return Err(Unrun::NoMemory),
+    };
+    match played(alloc, settings, nodes, policy) {
+        Ok(Some(whole)) => Ok(whole),
+        Ok(None) => Err(Unrun::NotBuilt),
+        Err(_) => Err(Unrun::NoMemory),
+    }
 }

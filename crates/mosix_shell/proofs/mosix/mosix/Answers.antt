@@ -4,7 +4,11 @@ use Rattle.node_machine.specs.Policy.{given_by}
 use Rattle.mosix_shell.specs.Told.{seen}
 use Rattle.mosix_shell.proofs.Answering.{memory_answers, words_told}
 use Rattle.mosix_shell.proofs.Causing.{write_cause}
+use Rattle.mosix_shell.proofs.Ranges.{in_range}
 use Rattle.mosix_shell.proofs.mosix.mosix.Goals as goal
+
+pub run_settings-requires : goal.run_settings-requires
+run_settings-requires g c = in_range c.args.words.now c.in-Ok.settings c.in-Ok.ensures.ok
 
 pub returns-in-Ok-clause-write : goal.returns-in-Ok-clause-write
 returns-in-Ok-clause-write g c =
