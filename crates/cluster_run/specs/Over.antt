@@ -1,5 +1,5 @@
 -- A run from its beginning to its end: the nodes that it begins with, and what holds of those that come back.
-use Rattle.std.specs.Prelude.{◌≡◌, ℕ, ◌<◌, Some, List, length, map, reverse, slice_get}
+use Rattle.std.specs.Prelude.{◌≡◌, ℕ, ◌<◌, ◌≤◌, Some, List, length, map, reverse, slice_get}
 use Rattle.node_event.specs.declared.event.Event.{Event}
 use Rattle.node_event.specs.declared.script.ScriptLine.{ScriptLine}
 use Rattle.user_spec.specs.User.{UserState}
@@ -65,6 +65,8 @@ pub record IsOver (policy : Policy) (plan : Plan) (room : ℕ) (why : OverWhy) (
 -- what holds of the nodes that come back: theirs are journals, and where these are put in order the run was lawful
 pub record Ran (policy : Policy) (plan : Plan) (room : ℕ) (why : OverWhy) (nodes : List Node) : Type 0 where
   pub count : length nodes ≡ plan.nodes
+  -- in the same places, none with more events than its journal has room for
+  pub places : (k : ℕ) (n : Node) → slice_get nodes k ≡ Some n → (n.id ≡ k) × (length n.journal.events ≤ room)
   pub journals : AreJournals 0 (map (λ (n : Node). n.journal) nodes)
   pub over : (es : List Event) → AreWoven plan nodes es → IsOver policy plan room why nodes es
 

@@ -4,10 +4,12 @@ use Rattle.call_table.specs.declared.limit.TheConstants.{SCRIPT_BYTES}
 use Rattle.outside.specs.Outside.{NamedFile, Rose}
 use Rattle.outside.specs.declared.traits.Failed.{Failed}
 use Rattle.node_event.specs.declared.script.ScriptLine.{ScriptLine}
+use Rattle.rand_core.specs.Stream.{Stream}
 use Rattle.mosix_words.specs.declared.settings.Mode.{Mode}
 use Rattle.mosix_words.specs.declared.settings.Mode.TheVariants as mode
 use Rattle.mosix_words.specs.declared.settings.Settings.{Settings}
 use Rattle.user_spec.specs.User.{UserState}
+use Rattle.node_machine.specs.Machine.{Policy}
 use Rattle.shell_text.specs.Printing.{IsCall, AreWritten, FailsAt, BreaksAt, StopsBy, Prints}
 use Rattle.shell_text.specs.Report.{report_writes}
 use Rattle.shell_text.specs.Script.{script_of}
@@ -22,7 +24,7 @@ use Rattle.mosix_shell.specs.Why.{line_of, has_run, why_of_last, cuts_short}
 use Rattle.mosix_shell.specs.Writing.{WritesAll, WritesFront, WritesSome, WritesLine}
 use Rattle.mosix_shell.specs.Orders.{IsScriptOf, IsFaultOf, IsUnread}
 use Rattle.mosix_shell.specs.Images.{Refusal, RunLine, runs_of, images_of, AreImagesOf, IsRefused}
-use Rattle.mosix_shell.specs.Stage.{is_built_run, IsRun}
+use Rattle.mosix_shell.specs.Stage.{is_built}
 use Rattle.mosix_shell.specs.Causes.{AreAccepted, HasRefused, IsUnbuilt, CauseOf, Verdict, IsFaulty, HasBadImage, IsNotBuilt, Runs, verdict_on_users, verdict_on_script, verdict_of, Follows, IsComplete}
 use Rattle.mosix_shell.specs.Answers.{IsRunOf, IsReported, TellsRun, IsPartlyTold, WritesAnswer, TellsNone, Tells, RunAnswers, AsmAnswers, Refuses, AnswersIn, Answers}
 use Rattle.mosix_shell.specs.Parts.{IsRunFrom, IsUnbuiltFrom, IsUnrun, IsTold, IsPartOf, RefusesOrders, TellsOrders}
@@ -64,15 +66,15 @@ module _ {O : Type 0} (sink : Seen O (List ℕ)) (report : List (List ℕ)) (run
 
 -- ---- the orders of a script
 
-module _ {I O : Type 0} (settings : Settings) (orders : List ScriptLine) (images : Seen I (List NamedFile)) (sink : Seen O (List ℕ)) where
-  tells_run : (run : Run) (o : Option Run) (why : Why) → IsRunFrom settings (told images) orders run → IsTold sink (report_writes run orders settings.events) run o why → TellsOrders settings orders images sink o why
-  tells_run run (Some shown) why r t = subst (λ (x : Run). IsRunFrom settings (told images) orders x × IsReported sink (report_writes x orders settings.events) x why) (sym t.0) (r, t.1)
-  tells_run run None why r t = subst (RefusesOrders settings orders images sink) (sym t.0) (inr (record { run = run; run_from = r; printed = t.1 }))
+module _ (policy : Policy) (chance : Stream) {I O : Type 0} (settings : Settings) (orders : List ScriptLine) (images : Seen I (List NamedFile)) (sink : Seen O (List ℕ)) where
+  tells_run : (run : Run) (o : Option Run) (why : Why) → IsRunFrom policy chance settings (told images) orders run → IsTold sink (report_writes run orders settings.events) run o why → TellsOrders policy chance settings orders images sink o why
+  tells_run run (Some shown) why r t = subst (λ (x : Run). IsRunFrom policy chance settings (told images) orders x × IsReported sink (report_writes x orders settings.events) x why) (sym t.0) (r, t.1)
+  tells_run run None why r t = subst (RefusesOrders policy chance settings orders images sink) (sym t.0) (inr (record { run = run; run_from = r; printed = t.1 }))
 
-  pub orders_told : (run : Run) (ended : Ended) → IsRunFrom settings (told images) orders run → IsTold sink (report_writes run orders settings.events) run ended.run ended.why → TellsOrders settings orders images sink ended.run ended.why
+  pub orders_told : (run : Run) (ended : Ended) → IsRunFrom policy chance settings (told images) orders run → IsTold sink (report_writes run orders settings.events) run ended.run ended.why → TellsOrders policy chance settings orders images sink ended.run ended.why
   orders_told run ended r t = tells_run run ended.run ended.why r t
 
-  refused_so : (why : Why) → IsUnrun settings (told images) orders why → (why ≡ ReadFault → HasRisen images) → WritesLine sink (line_of why) → RefusesOrders settings orders images sink why
+  refused_so : (why : Why) → IsUnrun settings (told images) orders why → (why ≡ ReadFault → HasRisen images) → WritesLine sink (line_of why) → RefusesOrders policy chance settings orders images sink why
   refused_so (BadImage line kind) u f w = (u, w)
   refused_so NotBuilt u f w = (u, w)
   refused_so ReadFault u f w = (f refl, w)
@@ -85,13 +87,13 @@ module _ {I O : Type 0} (settings : Settings) (orders : List ScriptLine) (images
   refused_so WriteFault u f w = absurd u
   refused_so (JournalFull node) u f w = absurd u
 
-  refused_as : (why told' : Why) → ((told' ≡ why) ⊎ (told' ≡ NoMemory)) → IsUnrun settings (told images) orders why → (why ≡ ReadFault → HasRisen images) → WritesLine sink (line_of told') → RefusesOrders settings orders images sink told'
+  refused_as : (why told' : Why) → ((told' ≡ why) ⊎ (told' ≡ NoMemory)) → IsUnrun settings (told images) orders why → (why ≡ ReadFault → HasRisen images) → WritesLine sink (line_of told') → RefusesOrders policy chance settings orders images sink told'
   refused_as why told' (inl e) u f w = refused_so told' (subst (IsUnrun settings (told images) orders) (sym e) u) (λ h. f (sym e ∙ h)) w
-  refused_as why told' (inr e) u f w = subst (RefusesOrders settings orders images sink) (sym e) (inl (subst (λ y. WritesLine sink (line_of y)) e w))
+  refused_as why told' (inr e) u f w = subst (RefusesOrders policy chance settings orders images sink) (sym e) (inl (subst (λ y. WritesLine sink (line_of y)) e w))
 
   pub orders_refused : (why : Why) (ended : Ended) → ended.run ≡ None → ((ended.why ≡ why) ⊎ (ended.why ≡ NoMemory)) → IsUnrun settings (told images) orders why → (why ≡ ReadFault → HasRisen images) → WritesLine sink (line_of ended.why)
-      → TellsOrders settings orders images sink ended.run ended.why
-  orders_refused why ended none is u f w = subst (λ o. TellsOrders settings orders images sink o ended.why) (sym none) (refused_as why ended.why is u f w)
+      → TellsOrders policy chance settings orders images sink ended.run ended.why
+  orders_refused why ended none is u f w = subst (λ o. TellsOrders policy chance settings orders images sink o ended.why) (sym none) (refused_as why ended.why is u f w)
 
 -- ---- mode `run`: completeness
 
@@ -119,10 +121,10 @@ module _ (settings : Settings) (script : Option (List ℕ)) (files : Option (Lis
       → verdict_of settings s fs ≡ verdict_on_users settings orders r
   verdict_at orders r s fs o i e f = ap (verdict_on_script settings fs) (read_as settings.nodes script orders s o e) ∙ ap (verdict_on_users settings orders) (images_as files (runs_of orders) r fs i f)
 
-  complete_run : (orders : List ScriptLine) (users : List UserState) (why : Why) → Follows why Runs → IsScriptOf settings.nodes script orders → AreImagesOf files (runs_of orders) users → is_built_run settings orders users ≡ true → IsComplete settings script files why
+  complete_run : (orders : List ScriptLine) (users : List UserState) (why : Why) → Follows why Runs → IsScriptOf settings.nodes script orders → AreImagesOf files (runs_of orders) users → is_built settings ≡ true → IsComplete settings script files why
   complete_run orders users why f o i b = completes settings script files why Runs f (λ s fs e g. verdict_at orders (Ok users) s fs o i.named e g ∙ ap (λ x. cond x Runs IsNotBuilt) b)
 
-  complete_unbuilt : (orders : List ScriptLine) (users : List UserState) → IsScriptOf settings.nodes script orders → AreImagesOf files (runs_of orders) users → is_built_run settings orders users ≡ false → IsComplete settings script files NotBuilt
+  complete_unbuilt : (orders : List ScriptLine) (users : List UserState) → IsScriptOf settings.nodes script orders → AreImagesOf files (runs_of orders) users → is_built settings ≡ false → IsComplete settings script files NotBuilt
   complete_unbuilt orders users o i b = completes settings script files NotBuilt IsNotBuilt refl (λ s fs e g. verdict_at orders (Ok users) s fs o i.named e g ∙ ap (λ x. cond x Runs IsNotBuilt) b)
 
   complete_image : (orders : List ScriptLine) (line kind : ℕ) → IsScriptOf settings.nodes script orders → IsRefused files (runs_of orders) line kind → IsComplete settings script files (BadImage line kind)
@@ -170,8 +172,8 @@ module _ {O : Type 0} (sink : Seen O (List ℕ)) (report : List (List ℕ)) (run
   reported_has_run NotBuilt h = last_has_run run.last ∙ ap has_run (sym h.0)
   reported_has_run (BadSource line kind) h = last_has_run run.last ∙ ap has_run (sym h.0)
 
-module _ {S I O : Type 0} (settings : Settings) (script : Seen S (List ℕ)) (images : Seen I (List NamedFile)) (sink : Seen O (List ℕ)) where
-  writes_answer : (why : Why) → WritesLine sink (line_of why) → WritesAnswer settings script images sink why
+module _ (policy : Policy) (chance : Stream) {S I O : Type 0} (settings : Settings) (script : Seen S (List ℕ)) (images : Seen I (List NamedFile)) (sink : Seen O (List ℕ)) where
+  writes_answer : (why : Why) → WritesLine sink (line_of why) → WritesAnswer policy chance settings script images sink why
   writes_answer Done h = h
   writes_answer Stuck h = h
   writes_answer BadWords h = h
@@ -197,7 +199,7 @@ module _ {S I O : Type 0} (settings : Settings) (script : Seen S (List ℕ)) (im
   cause_has_run NotBuilt c = refl
   cause_has_run (BadSource line kind) c = refl
 
-  tells_has_run : (o : Option Run) (why : Why) → Tells settings script images sink o why → is_some o ≡ has_run why
+  tells_has_run : (o : Option Run) (why : Why) → Tells policy chance settings script images sink o why → is_some o ≡ has_run why
   tells_has_run (Some run) why t = reported_has_run sink (report_writes run t.orders settings.events) run why t.printed
   tells_has_run None why t = cause_has_run why t.causes
 
@@ -229,24 +231,24 @@ module _ {S I O : Type 0} (settings : Settings) (script : Seen S (List ℕ)) (im
   unread_complete NotBuilt u = absurd u
   unread_complete (BadSource line kind) u = absurd u
 
-  memory_tells : WritesLine sink (line_of NoMemory) → TellsNone settings script images sink NoMemory
+  memory_tells : WritesLine sink (line_of NoMemory) → TellsNone policy chance settings script images sink NoMemory
   memory_tells w = record { causes = tt; printed = inl w }
 
-  unread_tells : (why shown : Why) → ((shown ≡ why) ⊎ (shown ≡ NoMemory)) → IsUnread settings.nodes (told script) why → (why ≡ ReadFault → HasRisen script) → WritesLine sink (line_of shown) → TellsNone settings script images sink shown
+  unread_tells : (why shown : Why) → ((shown ≡ why) ⊎ (shown ≡ NoMemory)) → IsUnread settings.nodes (told script) why → (why ≡ ReadFault → HasRisen script) → WritesLine sink (line_of shown) → TellsNone policy chance settings script images sink shown
   unread_tells why shown (inl e) u f w = record {
     causes = unread_cause shown (subst (IsUnread settings.nodes (told script)) (sym e) u) (λ h. f (sym e ∙ h));
     printed = writes_answer shown w;
   }
-  unread_tells why shown (inr e) u f w = subst (TellsNone settings script images sink) (sym e) (memory_tells (subst (λ y. WritesLine sink (line_of y)) e w))
+  unread_tells why shown (inr e) u f w = subst (TellsNone policy chance settings script images sink) (sym e) (memory_tells (subst (λ y. WritesLine sink (line_of y)) e w))
 
   unread_follows : (why shown : Why) → ((shown ≡ why) ⊎ (shown ≡ NoMemory)) → IsUnread settings.nodes (told script) why → IsComplete settings (told script) (told images) shown
   unread_follows why shown (inl e) u = unread_complete shown (subst (IsUnread settings.nodes (told script)) (sym e) u)
   unread_follows why shown (inr e) u = subst (IsComplete settings (told script) (told images)) (sym e) (complete_free settings (told script) (told images) NoMemory (λ v. tt))
 
   pub script_refused : (why : Why) (ended : Ended) → ended.run ≡ None → ((ended.why ≡ why) ⊎ (ended.why ≡ NoMemory)) → IsUnread settings.nodes (told script) why → (why ≡ ReadFault → HasRisen script)
-      → Reads (SCRIPT_BYTES + 1) (told script) (tells_now script) (cuts_short why) → WritesLine sink (line_of ended.why) → RunAnswers settings script images sink ended
+      → Reads (SCRIPT_BYTES + 1) (told script) (tells_now script) (cuts_short why) → WritesLine sink (line_of ended.why) → RunAnswers policy chance settings script images sink ended
   script_refused why ended none is u f reads w = record {
-    tells = subst (λ o. Tells settings script images sink o ended.why) (sym none) (unread_tells why ended.why is u f w);
+    tells = subst (λ o. Tells policy chance settings script images sink o ended.why) (sym none) (unread_tells why ended.why is u f w);
     has_run = ap is_some none ∙ cause_has_run ended.why (unread_tells why ended.why is u f w).causes;
     completeness = unread_follows why ended.why is u;
     reads = still_read (SCRIPT_BYTES + 1) (told script) (tells_now script) why ended.why reads is;
@@ -254,14 +256,14 @@ module _ {S I O : Type 0} (settings : Settings) (script : Seen S (List ℕ)) (im
 
   -- ---- the script is run
 
-  run_accepted : (orders : List ScriptLine) (run : Run) → IsScriptOf settings.nodes (told script) orders → IsRunFrom settings (told images) orders run → IsRunOf settings (told script) (told images) orders run
+  run_accepted : (orders : List ScriptLine) (run : Run) → IsScriptOf settings.nodes (told script) orders → IsRunFrom policy chance settings (told images) orders run → IsRunOf policy chance settings (told script) (told images) orders run
   run_accepted orders run o r = record { users = r.users; accepted = record { orders_are = o; users_are = r.users_are }; is = r.is }
 
-  part_told : (orders : List ScriptLine) → IsScriptOf settings.nodes (told script) orders → (IsUntouched sink ⊎ IsPartOf settings orders images sink) → IsUntouched sink ⊎ IsPartlyTold settings script images sink
+  part_told : (orders : List ScriptLine) → IsScriptOf settings.nodes (told script) orders → (IsUntouched sink ⊎ IsPartOf policy chance settings orders images sink) → IsUntouched sink ⊎ IsPartlyTold policy chance settings script images sink
   part_told orders o (inl h) = inl h
   part_told orders o (inr p) = inr (record { run = p.run; orders = orders; run_of = run_accepted orders p.run o p.run_from; printed = p.printed })
 
-  none_tells : (orders : List ScriptLine) (why : Why) → IsScriptOf settings.nodes (told script) orders → RefusesOrders settings orders images sink why → TellsNone settings script images sink why
+  none_tells : (orders : List ScriptLine) (why : Why) → IsScriptOf settings.nodes (told script) orders → RefusesOrders policy chance settings orders images sink why → TellsNone policy chance settings script images sink why
   none_tells orders Done o r = absurd r
   none_tells orders Stuck o r = absurd r
   none_tells orders BadWords o r = absurd r
@@ -274,7 +276,7 @@ module _ {S I O : Type 0} (settings : Settings) (script : Seen S (List ℕ)) (im
   none_tells orders NotBuilt o r = record { causes = record { orders = orders; users = r.0.users; accepted = record { orders_are = o; users_are = r.0.users_are }; unbuilt = r.0.unbuilt }; printed = r.1 }
   none_tells orders (BadSource line kind) o r = absurd r
 
-  none_complete : (orders : List ScriptLine) (why : Why) → IsScriptOf settings.nodes (told script) orders → RefusesOrders settings orders images sink why → IsComplete settings (told script) (told images) why
+  none_complete : (orders : List ScriptLine) (why : Why) → IsScriptOf settings.nodes (told script) orders → RefusesOrders policy chance settings orders images sink why → IsComplete settings (told script) (told images) why
   none_complete orders Done o r = absurd r
   none_complete orders Stuck o r = absurd r
   none_complete orders BadWords o r = absurd r
@@ -287,17 +289,17 @@ module _ {S I O : Type 0} (settings : Settings) (script : Seen S (List ℕ)) (im
   none_complete orders NotBuilt o r = complete_unbuilt settings (told script) (told images) orders r.0.users o r.0.users_are r.0.unbuilt
   none_complete orders (BadSource line kind) o r = absurd r
 
-  orders_tell : (orders : List ScriptLine) (o : Option Run) (why : Why) → IsScriptOf settings.nodes (told script) orders → TellsOrders settings orders images sink o why → Tells settings script images sink o why
+  orders_tell : (orders : List ScriptLine) (o : Option Run) (why : Why) → IsScriptOf settings.nodes (told script) orders → TellsOrders policy chance settings orders images sink o why → Tells policy chance settings script images sink o why
   orders_tell orders (Some run) why s t = record { orders = orders; run_of = run_accepted orders run s t.0; printed = t.1 }
   orders_tell orders None why s t = none_tells orders why s t
 
-  orders_complete : (orders : List ScriptLine) (o : Option Run) (why : Why) → IsScriptOf settings.nodes (told script) orders → TellsOrders settings orders images sink o why → IsComplete settings (told script) (told images) why
+  orders_complete : (orders : List ScriptLine) (o : Option Run) (why : Why) → IsScriptOf settings.nodes (told script) orders → TellsOrders policy chance settings orders images sink o why → IsComplete settings (told script) (told images) why
   orders_complete orders (Some run) why s t =
       complete_run settings (told script) (told images) orders t.0.users why (reported_follows sink (report_writes run orders settings.events) run why t.1) s t.0.users_are t.0.is.built
   orders_complete orders None why s t = none_complete orders why s t
 
-  pub script_told : (orders : List ScriptLine) (ended : Ended) → IsScriptOf settings.nodes (told script) orders → Reads (SCRIPT_BYTES + 1) (told script) (tells_now script) false → TellsOrders settings orders images sink ended.run ended.why
-      → RunAnswers settings script images sink ended
+  pub script_told : (orders : List ScriptLine) (ended : Ended) → IsScriptOf settings.nodes (told script) orders → Reads (SCRIPT_BYTES + 1) (told script) (tells_now script) false → TellsOrders policy chance settings orders images sink ended.run ended.why
+      → RunAnswers policy chance settings script images sink ended
   script_told orders ended s reads t = record {
     tells = orders_tell orders ended.run ended.why s t;
     has_run = tells_has_run ended.run ended.why (orders_tell orders ended.run ended.why s t);
@@ -307,11 +309,11 @@ module _ {S I O : Type 0} (settings : Settings) (script : Seen S (List ℕ)) (im
 
   -- ---- all modes
 
-  pub in_mode : (m n : Mode) (ended : Ended) → m ≡ n → AnswersIn n settings script images sink ended → AnswersIn m settings script images sink ended
-  in_mode m n ended e h = subst (λ x. AnswersIn x settings script images sink ended) (sym e) h
+  pub in_mode : (m n : Mode) (ended : Ended) → m ≡ n → AnswersIn policy chance n settings script images sink ended → AnswersIn policy chance m settings script images sink ended
+  in_mode m n ended e h = subst (λ x. AnswersIn policy chance x settings script images sink ended) (sym e) h
 
-  memory_runs : (ended : Ended) (status : ℕ) → IsUntouched script → IsUntouched sink → ended ≡ record { status = status; why = NoMemory; run = None } → RunAnswers settings script images sink ended
-  memory_runs ended status same silent is = subst (RunAnswers settings script images sink) (sym is) (record {
+  memory_runs : (ended : Ended) (status : ℕ) → IsUntouched script → IsUntouched sink → ended ≡ record { status = status; why = NoMemory; run = None } → RunAnswers policy chance settings script images sink ended
+  memory_runs ended status same silent is = subst (RunAnswers policy chance settings script images sink) (sym is) (record {
     tells = memory_tells silent;
     has_run = refl;
     completeness = complete_free settings (told script) (told images) NoMemory (λ v. tt);
@@ -321,18 +323,18 @@ module _ {S I O : Type 0} (settings : Settings) (script : Seen S (List ℕ)) (im
   memory_refuses : (only : Why) (ended : Ended) (status : ℕ) → IsUntouched script → IsUntouched images → IsUntouched sink → ended ≡ record { status = status; why = NoMemory; run = None } → Refuses only script images sink ended
   memory_refuses only ended status same unread silent is = subst (Refuses only script images sink) (sym is) (record { why = inr refl; no_run = refl; unread = (same, unread); printed = silent })
 
-  memory_in : (m : Mode) (ended : Ended) (status : ℕ) → IsUntouched script → IsUntouched images → IsUntouched sink → ended ≡ record { status = status; why = NoMemory; run = None } → AnswersIn m settings script images sink ended
+  memory_in : (m : Mode) (ended : Ended) (status : ℕ) → IsUntouched script → IsUntouched images → IsUntouched sink → ended ≡ record { status = status; why = NoMemory; run = None } → AnswersIn policy chance m settings script images sink ended
   memory_in mode.Run ended status same unread silent is = memory_runs ended status same silent is
   memory_in mode.Asm ended status same unread silent is = no_memory script images sink ended status same unread silent is
   memory_in mode.Gen ended status same unread silent is = memory_refuses NotBuilt ended status same unread silent is
 
-module _ {S I O : Type 0} (script : Seen S (List ℕ)) (images : Seen I (List NamedFile)) (sink : Seen O (List ℕ)) where
-  pub memory_answers : (words : Option Settings) (ended : Ended) (status : ℕ) → IsUntouched script → IsUntouched images → IsUntouched sink → ended ≡ record { status = status; why = NoMemory; run = None } → Answers words script images sink ended
+module _ (policy : Policy) (chance : Stream) {S I O : Type 0} (script : Seen S (List ℕ)) (images : Seen I (List NamedFile)) (sink : Seen O (List ℕ)) where
+  pub memory_answers : (words : Option Settings) (ended : Ended) (status : ℕ) → IsUntouched script → IsUntouched images → IsUntouched sink → ended ≡ record { status = status; why = NoMemory; run = None } → Answers policy chance words script images sink ended
   memory_answers None ended status same unread silent is = subst (Refuses BadWords script images sink) (sym is) (record { why = inr refl; no_run = refl; unread = (same, unread); printed = silent })
-  memory_answers (Some settings) ended status same unread silent is = memory_in settings script images sink settings.mode ended status same unread silent is
+  memory_answers (Some settings) ended status same unread silent is = memory_in policy chance settings script images sink settings.mode ended status same unread silent is
 
-  pub words_refused : (words : Option Settings) (ended : Ended) → words ≡ None → IsUntouched script → IsUntouched images → ended.run ≡ None → ((ended.why ≡ BadWords) ⊎ (ended.why ≡ NoMemory)) → WritesLine sink (line_of ended.why) → Answers words script images sink ended
-  words_refused words ended e same unread none why w = subst (λ o. Answers o script images sink ended) (sym e) (record { why = why; no_run = none; unread = (same, unread); printed = w })
+  pub words_refused : (words : Option Settings) (ended : Ended) → words ≡ None → IsUntouched script → IsUntouched images → ended.run ≡ None → ((ended.why ≡ BadWords) ⊎ (ended.why ≡ NoMemory)) → WritesLine sink (line_of ended.why) → Answers policy chance words script images sink ended
+  words_refused words ended e same unread none why w = subst (λ o. Answers policy chance o script images sink ended) (sym e) (record { why = why; no_run = none; unread = (same, unread); printed = w })
 
-  pub words_told : (words : Option Settings) (settings : Settings) (ended : Ended) → words ≡ Some settings → AnswersIn settings.mode settings script images sink ended → Answers words script images sink ended
-  words_told words settings ended e h = subst (λ o. Answers o script images sink ended) (sym e) h
+  pub words_told : (words : Option Settings) (settings : Settings) (ended : Ended) → words ≡ Some settings → AnswersIn policy chance settings.mode settings script images sink ended → Answers policy chance words script images sink ended
+  words_told words settings ended e h = subst (λ o. Answers policy chance o script images sink ended) (sym e) h

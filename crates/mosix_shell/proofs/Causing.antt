@@ -2,9 +2,11 @@
 use Rattle.std.proofs.Common.{◌≡◌, ◌⊎◌, inl, inr, ℕ, ◌+◌, ◌-◌, ◌^◌, ◌≤◌, min, List, [], ◌∷◌, refl, ap, ◌∙◌, sym, subst, arith, Option, Some, None, Ok}
 use Rattle.std.proofs.Math.Nat.{min-le_left, min-le_right, le-min}
 use Rattle.outside.specs.Outside.{NamedFile, Rose}
+use Rattle.rand_core.specs.Stream.{Stream}
 use Rattle.mosix_words.specs.declared.settings.Mode.{Mode}
 use Rattle.mosix_words.specs.declared.settings.Mode.TheVariants as mode
 use Rattle.mosix_words.specs.declared.settings.Settings.{Settings}
+use Rattle.node_machine.specs.Machine.{Policy}
 use Rattle.shell_text.specs.Printing.{AreWritten, FailsAt}
 use Rattle.shell_text.specs.Report.{chunks_of, report_writes}
 use Rattle.shell_text.specs.declared.run.Last.{Last}
@@ -43,17 +45,17 @@ last_not last.Done h = cc
 last_not last.Stuck h = cc
 last_not (last.Full node) h = cc
 
-module _ {S I O : Type 0} (script : Seen S (List ℕ)) (images : Seen I (List NamedFile)) (sink : Seen O (List ℕ)) where
+module _ (policy : Policy) (chance : Stream) {S I O : Type 0} (script : Seen S (List ℕ)) (images : Seen I (List NamedFile)) (sink : Seen O (List ℕ)) where
   reads_last : (l : Last) → why_of_last l ≡ ReadFault → HasRisen script ⊎ HasRisen images
   reads_last last.Done h = absurd (let e : Done ≡ ReadFault = h in cc)
   reads_last last.Stuck h = absurd (let e : Stuck ≡ ReadFault = h in cc)
   reads_last (last.Full node) h = absurd (let e : JournalFull node ≡ ReadFault = h in cc)
 
-  tells_read : (settings : Settings) (o : Option Run) → Tells settings script images sink o ReadFault → HasRisen script ⊎ HasRisen images
+  tells_read : (settings : Settings) (o : Option Run) → Tells policy chance settings script images sink o ReadFault → HasRisen script ⊎ HasRisen images
   tells_read settings (Some run) t = reads_last run.last (sym t.printed.0)
   tells_read settings None t = t.causes
 
-  tells_write : (settings : Settings) (o : Option Run) → Tells settings script images sink o WriteFault → HasRisen sink
+  tells_write : (settings : Settings) (o : Option Run) → Tells policy chance settings script images sink o WriteFault → HasRisen sink
   tells_write settings (Some run) t = front_rose sink (report_writes run t.orders settings.events) t.printed
   tells_write settings None t = absurd t.causes
 
@@ -63,20 +65,20 @@ module _ {S I O : Type 0} (script : Seen S (List ℕ)) (images : Seen I (List Na
   asm_write : (text : List ℕ) → WritesFile text sink WriteFault → HasRisen sink
   asm_write text w = front_rose sink (chunks_of w.0) w.2
 
-  mode_read : (m : Mode) (settings : Settings) (ended : Ended) → AnswersIn m settings script images sink ended → ended.why ≡ ReadFault → HasRisen script ⊎ HasRisen images
-  mode_read mode.Run settings ended a e = tells_read settings ended.run (subst (Tells settings script images sink ended.run) e a.tells)
+  mode_read : (m : Mode) (settings : Settings) (ended : Ended) → AnswersIn policy chance m settings script images sink ended → ended.why ≡ ReadFault → HasRisen script ⊎ HasRisen images
+  mode_read mode.Run settings ended a e = tells_read settings ended.run (subst (Tells policy chance settings script images sink ended.run) e a.tells)
   mode_read mode.Asm settings ended a e = inl (a.read_fault e)
   mode_read mode.Gen settings ended a e = absurd (refuses_not NotBuilt ReadFault ended a e (λ h. cc) (λ h. cc))
 
-  mode_write : (m : Mode) (settings : Settings) (ended : Ended) → AnswersIn m settings script images sink ended → ended.why ≡ WriteFault → HasRisen sink
-  mode_write mode.Run settings ended a e = tells_write settings ended.run (subst (Tells settings script images sink ended.run) e a.tells)
+  mode_write : (m : Mode) (settings : Settings) (ended : Ended) → AnswersIn policy chance m settings script images sink ended → ended.why ≡ WriteFault → HasRisen sink
+  mode_write mode.Run settings ended a e = tells_write settings ended.run (subst (Tells policy chance settings script images sink ended.run) e a.tells)
   mode_write mode.Asm settings ended a e = asm_write a.assembly.text (subst (WritesFile a.assembly.text sink) e a.assembly.written)
   mode_write mode.Gen settings ended a e = absurd (refuses_not NotBuilt WriteFault ended a e (λ h. cc) (λ h. cc))
 
-  pub read_cause : (words : Option Settings) (ended : Ended) → Answers words script images sink ended → ended.why ≡ ReadFault → HasRisen script ⊎ HasRisen images
+  pub read_cause : (words : Option Settings) (ended : Ended) → Answers policy chance words script images sink ended → ended.why ≡ ReadFault → HasRisen script ⊎ HasRisen images
   read_cause None ended a e = absurd (refuses_not BadWords ReadFault ended a e (λ h. cc) (λ h. cc))
   read_cause (Some settings) ended a e = mode_read settings.mode settings ended a e
 
-  pub write_cause : (words : Option Settings) (ended : Ended) → Answers words script images sink ended → ended.why ≡ WriteFault → HasRisen sink
+  pub write_cause : (words : Option Settings) (ended : Ended) → Answers policy chance words script images sink ended → ended.why ≡ WriteFault → HasRisen sink
   write_cause None ended a e = absurd (refuses_not BadWords WriteFault ended a e (λ h. cc) (λ h. cc))
   write_cause (Some settings) ended a e = mode_write settings.mode settings ended a e

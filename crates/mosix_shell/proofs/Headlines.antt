@@ -1,60 +1,119 @@
--- A run that ended replays, and is lawful.
-use Rattle.std.proofs.Common.{◌≡◌, ℕ, ◌≤◌, List, [], ◌∷◌, reverse, refl, ap, ◌∙◌, sym, subst, arith, Some, true, false, cond, nat_eq, Bool}
-use Rattle.node_event.specs.declared.script.ScriptLine.{ScriptLine}
-use Rattle.user_spec.specs.User.{UserState}
-use Rattle.mosix_shell.specs.History.{machine_of, AreStamped}
-use Rattle.mosix_shell.specs.ScriptLaw.{ScriptLaw, command_count}
-use Rattle.mosix_shell.specs.OnceLaw.{OnceLaw, AreGivenBack}
-use Rattle.mosix_shell.specs.declared.phase.Phase.{Phase}
-use Rattle.mosix_shell.specs.declared.phase.Phase.TheVariants.{Goes}
-use Rattle.mosix_shell.specs.Turns.{Story, story_of, first_event, first_moment, quantum_steps, later_events}
-use Rattle.mosix_shell.specs.Running.{IsRunOfStory}
-use Rattle.mosix_shell.specs.Headline.{Replays, IsLawful}
-use Rattle.mosix_shell.specs.OnePlace.{OnePlace}
+-- What a run tells of the nodes that come back from it is the headline.
+use Rattle.std.proofs.Common.{◌≡◌, ℕ, ◌≤◌, List, [], ◌∷◌, length, reverse, refl, sym, ap, ◌∙◌, subst, arith, Option, Some, None}
+use Rattle.std.specs.Prelude.{slice_get}
+use Rattle.call_table.specs.declared.process.PidState.{PidState}
+use Rattle.fs_memory.specs.Files.{named_files}
+use Rattle.kernel_spec.specs.Kernel.{KernelState, given}
+use Rattle.protocol.specs.Notes.{Local}
+use Rattle.run_laws.specs.Machine.{ReplyGiven, MachineState}
+use Rattle.run_laws.specs.Ends.{statuses_to}
+use Rattle.node_machine.specs.Plan.{Plan}
+use Rattle.node_machine.specs.Machine.{Policy, machine}
+use Rattle.node_core.specs.declared.node.Node.{Node}
+use Rattle.node_core.specs.Locals.{local}
+use Rattle.cluster_run.specs.declared.over.OverWhy.{OverWhy}
+use Rattle.cluster_run.specs.declared.over.OverWhy.TheVariants as why
+use Rattle.cluster_run.specs.Over.{AreWoven, IsOver, Ran, RanAs}
+use Rattle.shell_text.specs.declared.run.Last.{Last}
+use Rattle.shell_text.specs.declared.run.Last.TheVariants as last
 use Rattle.shell_text.specs.declared.run.Run.{Run}
-use Rattle.mosix_shell.proofs.Stories.{Kept, IsTold, IsFinished, story_told, start_kept, finished, script_of}
-use Rattle.mosix_shell.proofs.Replaying.{replay}
+use Rattle.mosix_shell.specs.Headline.{replies_given, history, status_at, Tells, EndsAs, Headline}
+use Rattle.mosix_shell.specs.Left.{HasHome, states_at, TellsEnd}
+use Rattle.mosix_shell.specs.Stage.{last_of}
+use Rattle.mosix_shell.proofs.Weaves.{are_woven, most_events}
+use Rattle.mosix_shell.proofs.Replies.{replies_told}
+use Rattle.mosix_shell.proofs.Statuses.{done_states, stuck_states, full_states}
 
-replays_by : (setup : List UserState) (script : List ScriptLine) (run : Run) (s : Story) → IsRunOfStory run s → machine_of setup script s.history ≡ Some s.last.machine → IsFinished s.last → Replays setup script run
-replays_by setup script run s r plays done = record {
-  m = s.last.machine;
-  plays = replay setup script run.events ∙ ap (machine_of setup script) r.history ∙ plays;
-  statuses_are = r.told.statuses_are;
-  terminal_is = r.told.terminal_is;
-  files_are = r.told.files_are;
-  replies_are = r.told.replies_are;
-  done = r.told.done;
-  ended = done.all;
-}
+module _ (policy : Policy) (plan : Plan) (room : ℕ) (nodes : List Node) (run : Run) where
+  same_machine : (a b : MachineState (machine policy plan)) → Some a ≡ Some b → a ≡ b
+  same_machine a b e = cc
 
-no_phase : (b : Bool) (phase : Phase) → phase ≡ Goes → cond b phase Goes ≡ Goes
-no_phase true phase h = h
-no_phase false phase h = refl
+  module _ (answer : OverWhy) (over : IsOver policy plan room answer nodes (reverse run.events)) (l : Last) (tells : TellsEnd nodes l run) where
+    home_at : over.world.nodes 0 ≡ local policy plan tells.home
+    home_at = over.nodes_are 0 tells.home tells.first
 
-lawful_by : (setup : List UserState) (script : List ScriptLine) (run : Run) (s : Story) → s.history ≡ reverse run.events → Kept quantum_steps setup script s.history s.last → s.last.phase ≡ Goes → IsLawful quantum_steps setup script run
-lawful_by setup script run s e k goes = record {
-  stamped = subst AreStamped e k.told.stamped;
-  scripted = subst (ScriptLaw setup script) e k.told.scripted;
-  all_lines = ap command_count (sym e) ∙ k.told.commands;
-  once = subst (OnceLaw quantum_steps setup script) e k.told.once;
-  given_back = subst AreGivenBack e (λ p. k.told.phases p ∙ no_phase (nat_eq 1 p) s.last.phase goes);
-  one_place = subst (OnePlace setup script) e k.one_place;
-}
+    machine_is : over.holds.replays.machine ≡ over.ending.machine
+    machine_is = same_machine over.holds.replays.machine over.ending.machine (sym over.holds.replays.plays ∙ over.ending.plays)
 
-some_quantum : 1 ≤ quantum_steps
-unfolding quantum_steps
-some_quantum = omega arith
+    kernel_is : tells.home.deputies.kernel ≡ over.ending.machine.kernel
+    kernel_is = ap (λ (x : Local (machine policy plan)). x.kernel) (sym home_at) ∙ (over.holds.replays.kernel ∙ ap (λ (m : MachineState (machine policy plan)). m.kernel) machine_is)
 
-story_is_told : (line : ℕ) (u : UserState) (words : List (List ℕ)) → IsTold quantum_steps (u ∷ []) (script_of line words) (story_of line u)
-story_is_told line u words =
-    story_told quantum_steps later_events (u ∷ []) (script_of line words) (first_event line ∷ []) (first_moment u) some_quantum (start_kept quantum_steps line u words)
+    replies_are : replies_given run.replies ≡ over.ending.machine.replies
+    replies_are =
+        ap replies_given tells.replies_are
+        ∙ (replies_told (machine policy plan) run.events over.holds.lawful.script
+        ∙ (over.holds.replays.replies ∙ ap (λ (m : MachineState (machine policy plan)). m.replies) machine_is))
 
-pub replays : (run : Run) (line : ℕ) (u : UserState) (words : List (List ℕ)) → IsRunOfStory run (story_of line u) → Replays (u ∷ []) (script_of line words) run
-replays run line u words r =
-    let t = story_is_told line u words in
-    replays_by (u ∷ []) (script_of line words) run (story_of line u) r t.kept.told.plays (finished quantum_steps (u ∷ []) (script_of line words) (story_of line u) t r.ended)
+    told_is : states_at l tells.home.deputies ≡ statuses_to (machine policy plan) (status_at policy plan l over.ending.machine) (given over.ending.machine.kernel) → Tells policy plan run over.ending.machine
+    told_is states = record {
+      statuses_are = tells.statuses_are ∙ (states ∙ ap (λ (x : Last). statuses_to (machine policy plan) (status_at policy plan x over.ending.machine) (given over.ending.machine.kernel)) (sym tells.last_is));
+      terminal_is = tells.terminal_is ∙ ap (λ (k : KernelState). k.terminal) kernel_is;
+      files_are = tells.files_are ∙ ap (λ (k : KernelState). named_files k.io.files) kernel_is;
+      replies_are = replies_are;
+    }
 
-pub lawful : (run : Run) (line : ℕ) (u : UserState) (words : List (List ℕ)) → IsRunOfStory run (story_of line u) → IsLawful quantum_steps (u ∷ []) (script_of line words) run
-lawful run line u words r =
-    let t = story_is_told line u words in
-    lawful_by (u ∷ []) (script_of line words) run (story_of line u) (sym r.history) t.kept (finished quantum_steps (u ∷ []) (script_of line words) (story_of line u) t r.ended).goes
+    so_far : AreWoven plan nodes (reverse run.events) → ((k : ℕ) (n : Node) → slice_get nodes k ≡ Some n → length n.journal.events ≤ room)
+        → states_at l tells.home.deputies ≡ statuses_to (machine policy plan) (status_at policy plan l over.ending.machine) (given over.ending.machine.kernel)
+        → EndsAs policy plan room l (history policy plan run) over.ending.machine over.world → Headline policy plan room run
+    so_far woven most states ends = record {
+      ordered = record { sorted = woven.sorted; most = most_events plan nodes room (reverse run.events) woven most };
+      state = over.ending.machine;
+      plays = over.ending.plays;
+      tells = told_is states;
+      lawful = over.holds.lawful;
+      one_place = over.holds.one_place;
+      grounded = over.holds.grounded;
+      world = over.world;
+      carried = over.carried;
+      holds = over.holds;
+      ended = subst (λ (x : Last). EndsAs policy plan room x (history policy plan run) over.ending.machine over.world) (sym tells.last_is) ends;
+    }
+
+  by_why : (answer : OverWhy) (l : Last) → last_of answer ≡ Some l → IsOver policy plan room answer nodes (reverse run.events) → TellsEnd nodes l run → AreWoven plan nodes (reverse run.events)
+      → ((k : ℕ) (n : Node) → slice_get nodes k ≡ Some n → length n.journal.events ≤ room) → Headline policy plan room run
+  by_why why.Done last.Done e over tells woven most =
+      so_far why.Done over last.Done tells woven most (done_states policy plan tells.home (history policy plan run) over.world (home_at why.Done over last.Done tells) over.ending (kernel_is why.Done over last.Done tells) over.over.1) over.over
+  by_why why.Stuck last.Stuck e over tells woven most =
+      so_far why.Stuck over last.Stuck tells woven most (stuck_states policy plan tells.home (history policy plan run) over.world (home_at why.Stuck over last.Stuck tells) over.ending (kernel_is why.Stuck over last.Stuck tells) over.over.0) over.over
+  by_why (why.Full n) (last.Full k) e over tells woven most =
+      let same : n ≡ k = cc in
+      so_far (why.Full n) over (last.Full k) tells woven most (full_states policy plan tells.home (history policy plan run) over.world (home_at (why.Full n) over (last.Full k) tells) over.ending (kernel_is (why.Full n) over (last.Full k) tells) k)
+      (subst (λ (x : ℕ). EndsAs policy plan room (last.Full x) (history policy plan run) over.ending.machine over.world) same over.over)
+  by_why why.Done last.Stuck e over tells woven most = absurd cc
+  by_why why.Done (last.Full k) e over tells woven most = absurd cc
+  by_why why.Stuck last.Done e over tells woven most = absurd cc
+  by_why why.Stuck (last.Full k) e over tells woven most = absurd cc
+  by_why (why.Full n) last.Done e over tells woven most = absurd cc
+  by_why (why.Full n) last.Stuck e over tells woven most = absurd cc
+  by_why why.NotBuilt l e over tells woven most = absurd cc
+
+  pub headline : (answer : OverWhy) (l : Last) → last_of answer ≡ Some l → Ran policy plan room answer nodes → TellsEnd nodes l run → ((k : ℕ) (n : Node) → slice_get nodes k ≡ Some n → length n.journal.events ≤ room)
+      → Headline policy plan room run
+  headline answer l e ran tells most =
+      let woven = are_woven plan nodes run.events (tells.rising ran.journals) (tells.own ran.journals) in
+      by_why answer l e (ran.over (reverse run.events) woven) tells woven most
+
+-- ---- the nodes that come back from a run
+
+first_is : (xs : List Node) → 1 ≤ length xs → ((k : ℕ) (n : Node) → slice_get xs k ≡ Some n → n.id ≡ k) → HasHome xs
+first_is [] more ids = absurd (omega (arith, more))
+first_is (x ∷ xs) more ids = record { home = x; first = refl; is_home = ids 0 x refl }
+
+pub not_built : (answer : OverWhy) → last_of answer ≡ None → answer ≡ why.NotBuilt
+not_built why.Done e = absurd cc
+not_built why.Stuck e = absurd cc
+not_built (why.Full n) e = absurd cc
+not_built why.NotBuilt e = refl
+
+module _ (policy : Policy) (plan : Plan) (room : ℕ) (nodes : List Node) where
+  ran_of : (answer : OverWhy) (l : Last) → last_of answer ≡ Some l → RanAs policy plan room answer nodes → Ran policy plan room answer nodes
+  ran_of why.Done l e ran = ran
+  ran_of why.Stuck l e ran = ran
+  ran_of (why.Full n) l e ran = ran
+  ran_of why.NotBuilt l e ran = absurd cc
+
+  pub has_home : (answer : OverWhy) (l : Last) → last_of answer ≡ Some l → RanAs policy plan room answer nodes → 1 ≤ length nodes → HasHome nodes
+  has_home answer l e ran more = first_is nodes more (λ k n at. ((ran_of answer l e ran).places k n at).0)
+
+  pub told_headline : (answer : OverWhy) (l : Last) (run : Run) → last_of answer ≡ Some l → RanAs policy plan room answer nodes → TellsEnd nodes l run → Headline policy plan room run
+  told_headline answer l run e ran tells = let r = ran_of answer l e ran in headline policy plan room nodes run answer l e r tells (λ k n at. (r.places k n at).1)

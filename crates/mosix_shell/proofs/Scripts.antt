@@ -24,6 +24,7 @@ use Rattle.shell_text.specs.declared.keyword.Keyword.TheVariants.{Run, Kill, Mov
 use Rattle.shell_text.specs.declared.script.Reader.{Reader}
 use Rattle.mosix_shell.specs.Reading.{IsReadPast}
 use Rattle.mosix_shell.specs.Orders.{IsScriptOf, IsFaultOf, FitsStack, FitStacks}
+use Rattle.mosix_shell.proofs.EachOrder.{OfOrder, of_alone, of_one, of_two, OfEach, of_each}
 
 -- ---- what was read comes to what the source's text comes to
 
@@ -80,134 +81,27 @@ size_of_words line = omega (arith, size-filter (slice_split is_blank line), tota
 
 -- ---- the order of a line
 
-abbrev FitsOrder : Result Order FaultKind → Type 0
-FitsOrder (Ok o) = FitsStack o
-FitsOrder (Err kind) = Unit {0}
-
-fits_alone : (o : Order) (ws : List (List ℕ)) → FitsStack o → FitsOrder (alone o ws)
-fits_alone o [] h = h
-fits_alone o (w ∷ ws) h = tt
-
-fits_made : {A : Type 0} (make : A → Order) (ws : List (List ℕ)) (r : Result A FaultKind) → ((a : A) → FitsStack (make a)) → FitsOrder (made_by make ws r)
-fits_made make ws (Ok a) h = fits_alone (make a) ws (h a)
-fits_made make ws (Err kind) h = tt
-
-fits_one : {A : Type 0} (read : List ℕ → Result A FaultKind) (make : A → Order) (ws : List (List ℕ)) → ((a : A) → FitsStack (make a)) → FitsOrder (with_one read make ws)
-fits_one read make [] h = tt
-fits_one read make (w ∷ ws) h = fits_made make ws (read w) h
-
-fits_then : {A B : Type 0} (read : List ℕ → Result B FaultKind) (make : A → B → Order) (ws : List (List ℕ)) (r : Result A FaultKind) → ((a : A) (b : B) → FitsStack (make a b)) → FitsOrder (then_one read make ws r)
-fits_then read make ws (Ok a) h = fits_one read (make a) ws (h a)
-fits_then read make ws (Err kind) h = tt
-
-fits_two : {A B : Type 0} (first : List ℕ → Result A FaultKind) (second : List ℕ → Result B FaultKind) (make : A → B → Order) (ws : List (List ℕ)) → ((a : A) (b : B) → FitsStack (make a b)) → FitsOrder (with_two first second make ws)
-fits_two first second make [] h = tt
-fits_two first second make (w ∷ ws) h = fits_then second make ws (first w) h
-
-fits_run : (ws : List (List ℕ)) → start_size ws ≤ 8192 → FitsOrder (run_of ws)
+fits_run : (ws : List (List ℕ)) → start_size ws ≤ 8192 → OfOrder FitsStack (run_of ws)
 fits_run [] h = tt
 fits_run (image ∷ ws) h = h
 
 fits_words : (rest : List ℕ) → length rest ≤ LINE_BYTES → start_size (words_of rest) ≤ 8192
 fits_words rest h = omega (arith, size_of_words rest)
 
-fits_of : (nodes : ℕ) (k : Keyword) (rest : List ℕ) → length rest ≤ LINE_BYTES → FitsOrder (order_of nodes k rest)
+fits_of : (nodes : ℕ) (k : Keyword) (rest : List ℕ) → length rest ≤ LINE_BYTES → OfOrder FitsStack (order_of nodes k rest)
 fits_of nodes Run rest h = fits_run (words_of rest) (fits_words rest h)
-fits_of nodes Kill rest h = fits_two pid_of signal_of order.Kill (words_of rest) (λ a b. tt)
-fits_of nodes Move rest h = fits_two pid_of (node_of nodes) order.Move (words_of rest) (λ a b. tt)
+fits_of nodes Kill rest h = of_two FitsStack pid_of signal_of order.Kill (words_of rest) (λ a word b e. tt)
+fits_of nodes Move rest h = of_two FitsStack pid_of (node_of nodes) order.Move (words_of rest) (λ a word b e. tt)
 fits_of nodes Feed rest h = tt
-fits_of nodes Eof rest h = fits_alone order.Eof (words_of rest) tt
-fits_of nodes Wait rest h = fits_one pid_of order.Wait (words_of rest) (λ a. tt)
-fits_of nodes After rest h = fits_two pid_of count_of order.After (words_of rest) (λ a b. tt)
-fits_of nodes Held rest h = fits_one pid_of order.Held (words_of rest) (λ a. tt)
-fits_of nodes Slots rest h = fits_one slots_of order.Slots (words_of rest) (λ a. tt)
+fits_of nodes Eof rest h = of_alone FitsStack order.Eof (words_of rest) tt
+fits_of nodes Wait rest h = of_one FitsStack pid_of order.Wait (words_of rest) (λ word a e. tt)
+fits_of nodes After rest h = of_two FitsStack pid_of count_of order.After (words_of rest) (λ a word b e. tt)
+fits_of nodes Held rest h = of_one FitsStack pid_of order.Held (words_of rest) (λ word a e. tt)
+fits_of nodes Slots rest h = of_one FitsStack slots_of order.Slots (words_of rest) (λ word a e. tt)
 
-fits_by : (nodes : ℕ) (k : Option Keyword) (rest : List ℕ) → length rest ≤ LINE_BYTES → FitsOrder (order_by nodes k rest)
-fits_by nodes None rest h = tt
-fits_by nodes (Some k) rest h = fits_of nodes k rest h
-
-abbrev FitsLine : Result (Option Order) FaultKind → Type 0
-FitsLine (Ok (Some o)) = FitsStack o
-FitsLine (Ok None) = Unit {0}
-FitsLine (Err kind) = Unit {0}
-
-fits_some : (r : Result Order FaultKind) → FitsOrder r → FitsLine (some_order r)
-fits_some (Ok o) h = h
-fits_some (Err kind) h = tt
-
-fits_if : (b : Bool) (r : Result (Option Order) FaultKind) → FitsLine r → FitsLine (cond b (Ok None) r)
-fits_if true r h = tt
-fits_if false r h = h
-
-behind_short : (line : List ℕ) (n : ℕ) → length line ≤ n → length (behind_word line) ≤ n
-behind_short line n h = omega (arith, length-drop {A = ℕ})
-
-fits_at : (nodes : ℕ) (line : List ℕ) (ws : List (List ℕ)) → length line ≤ LINE_BYTES → FitsLine (order_at nodes line ws)
-fits_at nodes line [] h = tt
-fits_at nodes line (name ∷ ws) h =
-    fits_if (is_comment name) (some_order (order_named nodes name (behind_word line)))
-    (fits_some (order_named nodes name (behind_word line)) (fits_by nodes (keyword_named name) (behind_word line) (behind_short line LINE_BYTES h)))
-
-fits_text : (b : Bool) (r : Result (Option Order) FaultKind) → FitsLine r → FitsLine (cond b r (Err NotText))
-fits_text true r h = h
-fits_text false r h = tt
-
-fits_past : (b : Bool) (r : Result (Option Order) FaultKind) → (b ≡ false → FitsLine r) → FitsLine (cond b (Err TooLong) r)
-fits_past true r h = tt
-fits_past false r h = h refl
-
--- a line that is past no limit is short
-short_if : (long others : Bool) → cond long true others ≡ false → long ≡ false
-short_if true others h = h
-short_if false others h = refl
-
-short_line : (number runs : ℕ) (line : List ℕ) → is_past number runs line ≡ false → length line ≤ LINE_BYTES
-short_line number runs line h =
-    let short = short_if (nat_lt LINE_BYTES (length line)) (cond (nat_lt LINES number) true (cond (nat_lt runs RUN_LINES) false (is_run_line line))) h in
-    grind (arith, nat_tests, short)
-
-fits_line : (nodes number runs : ℕ) (line : List ℕ) → FitsLine (line_order nodes number runs line)
-fits_line nodes number runs line =
-    fits_past (is_past number runs line) (cond (list_all is_text_byte line) (order_on nodes line) (Err NotText))
-    (λ past. fits_text (list_all is_text_byte line) (order_on nodes line) (fits_at nodes line (words_of line) (short_line number runs line past)))
-
--- ---- all lines
-
-fit-append : (xs : List ScriptLine) (l : ScriptLine) → FitStacks xs → FitsStack l.order → FitStacks (xs ++ l ∷ [])
-fit-append [] l h k = (k, tt)
-fit-append (x ∷ xs) l h k = (h.0, fit-append xs l h.1 k)
-
-abbrev FitsRead : Result Reader ScriptError → Type 0
-FitsRead (Ok r) = FitStacks r.script
-FitsRead (Err e) = Unit {0}
-
-fits_order : (r : Reader) (is_run : Bool) (o : Result (Option Order) FaultKind) → FitStacks r.script → FitsLine o → FitsRead (with_order r is_run o)
-fits_order r is_run (Err kind) h k = tt
-fits_order r is_run (Ok None) h k = h
-fits_order r is_run (Ok (Some made)) h k = fit-append r.script (record { line = r.number + 1; order = made }) h k
-
-fits_more : (nodes : ℕ) (ls : List (List ℕ)) (o : Result Reader ScriptError) → ((r : Reader) → FitStacks r.script → FitsRead (read_lines nodes ls r)) → FitsRead o → FitsRead (on_ok (read_lines nodes ls) o)
-fits_more nodes ls (Ok r) ih h = ih r h
-fits_more nodes ls (Err e) ih h = tt
-
-fits_lines : (nodes : ℕ) (ls : List (List ℕ)) (r : Reader) → FitStacks r.script → FitsRead (read_lines nodes ls r)
-fits_lines nodes [] r h = h
-fits_lines nodes (line ∷ ls) r h =
-    fits_more nodes ls (line_read nodes line r) (λ next k. fits_lines nodes ls next k)
-    (fits_order r (is_run_line line) (line_order nodes (r.number + 1) r.runs line) h (fits_line nodes (r.number + 1) r.runs line))
-
-abbrev FitsScript : Result (List ScriptLine) ScriptError → Type 0
-FitsScript (Ok orders) = FitStacks orders
-FitsScript (Err e) = Unit {0}
-
-fits_script : (r : Result Reader ScriptError) → FitsRead r → FitsScript (script_read r)
-fits_script (Ok r) h = h
-fits_script (Err e) h = tt
-
-fits_whole : (b : Bool) (r : Result (List ScriptLine) ScriptError) → FitsScript r → FitsScript (cond b (Err (fault.Fault 0 1)) r)
-fits_whole true r h = tt
-fits_whole false r h = h
+fit_stacks : (orders : List ScriptLine) → OfEach FitsStack orders → FitStacks orders
+fit_stacks [] h = tt
+fit_stacks (l ∷ ls) h = (h.0, fit_stacks ls h.1)
 
 pub words_fit : (nodes : ℕ) (text : List ℕ) (orders : List ScriptLine) → script_of nodes text ≡ Ok orders → FitStacks orders
-words_fit nodes text orders e =
-    subst FitsScript e (fits_whole (nat_lt SCRIPT_BYTES (length text)) (script_read (read_lines nodes (lines text) fresh)) (fits_script (read_lines nodes (lines text) fresh) (fits_lines nodes (lines text) fresh tt)))
+words_fit nodes text orders e = fit_stacks orders (of_each FitsStack nodes (fits_of nodes) text orders e)

@@ -1,144 +1,74 @@
--- What a history tells: it plays to the moment's machine, and keeps the laws. One turn more keeps all of it.
-use Rattle.std.proofs.Common.{◌≡◌, ℕ, ◌+◌, ◌≤◌, List, [], ◌∷◌, ◌++◌, slice_get, refl, ap, ◌∙◌, sym, subst, arith, add-zero, Option, Some, None, Bool, true, false, cond, nat_eq, ◌==◌, is_some}
-use Rattle.std.specs.Option.{option_map, option_and_then}
-use Rattle.std.proofs.lemmas.Option.{none-some}
-use Rattle.std.proofs.lemmas.Bool.Decides.{nat_tests}
+-- What a run left is told one item after the other.
+use Rattle.std.proofs.Common.{◌≡◌, ℕ, zero, suc, ◌+◌, ◌-◌, ◌<◌, ◌==◌, Bool, true, false, cond, List, [], ◌∷◌, ◌++◌, length, take, get_or, filter_map, refl, sym, ap, ◌∙◌, subst, arith, append_assoc, append-nil, Option, Some, None}
+use Rattle.std.specs.Prelude.{slice_get}
+use Rattle.std.specs.List.{cons_option}
+use Rattle.std.proofs.lemmas.List.{take_more}
+use Rattle.std.proofs.lemmas.List.Elements.{filter_map-append}
+use Rattle.call_table.specs.declared.process.Reply3.{Reply3}
 use Rattle.node_event.specs.declared.event.Event.{Event}
-use Rattle.node_event.specs.declared.event.What.{What}
-use Rattle.node_event.specs.declared.event.What.TheVariants.{Command, Steps, Sent, Got}
-use Rattle.node_event.specs.declared.event.Way.{Way}
-use Rattle.node_event.specs.declared.event.Way.TheVariants.{Did, Broke, Fell, Paused}
-use Rattle.node_event.specs.declared.script.ScriptLine.{ScriptLine}
-use Rattle.user_spec.specs.User.{UserState}
-use Rattle.user_spec.specs.Advance.{advanced, Walk}
-use Rattle.kernel_spec.specs.Kernel.{is_live}
-use Rattle.kernel_spec.specs.Pids.{at_pid, set_pid}
-use Rattle.one_node.specs.Machine.{MachineState, live_user, ended_of, with_user, played, machine_step, and_then, steps_of, done_of}
-use Rattle.mosix_shell.specs.Schedule.{setup_of, event_steps, served_step}
-use Rattle.mosix_shell.specs.History.{machine_of, AreStamped}
-use Rattle.mosix_shell.specs.ScriptLaw.{ScriptLaw, ScriptAt, command_count, commands_in}
-use Rattle.mosix_shell.specs.OnceLaw.{OnceLaw, OnceAt, OnceBetween, phase_of, phase_after, number_asked, way_for, IsWay, IsWaitingFor, IsQuantum}
-use Rattle.mosix_shell.specs.declared.phase.Phase.TheVariants.{Goes, Waits, IsServed}
-use Rattle.one_node.specs.declared.step.Setup.{Setup}
-use Rattle.one_node.specs.declared.step.Step.{Step}
-use Rattle.one_node.specs.declared.step.Step.TheVariants as step
-use Rattle.mosix_shell.specs.Turns.{Moment, is_built, served_what, served_machine, event_after}
-use Rattle.mosix_shell.proofs.Walks.{IsWalk}
+use Rattle.rand_core.specs.Stream.{Stream, next_u64}
+use Rattle.deputy.specs.Rows.{HomeState}
+use Rattle.node_core.specs.declared.node.Node.{Node}
+use Rattle.fs_memory.specs.Files.{named_files}
+use Rattle.node_event.specs.Journals.{JournalState}
+use Rattle.weave.specs.Weaves.{AreJournals, IsRising, own_events, events_at}
+use Rattle.shell_text.specs.declared.run.Last.{Last}
+use Rattle.mosix_shell.specs.declared.left.Shown.{Shown}
+use Rattle.mosix_shell.specs.Left.{states_at, reply_of, and_reply, replies_in, journals_of, HasHome, IsHomeOf, HomeTells, TellsEnd}
+use Rattle.mosix_shell.specs.Stage.{words_from}
 
-pub record Told (quantum : ℕ) (setup : List UserState) (script : List ScriptLine) (es : List Event) (now : Moment) : Type 0 where
-  pub plays : machine_of setup script es ≡ Some now.machine
-  pub phases : (p : ℕ) → phase_of p es ≡ cond (nat_eq 1 p) now.phase Goes
-  pub stamped : AreStamped es
-  pub scripted : ScriptLaw setup script es
-  pub commands : command_count es ≡ 1
-  pub once : OnceLaw quantum setup script es
+-- ---- home
 
--- ---- one event more
+home_if : (b : Bool) (x : Node) (d : HomeState) → cond b (Some x.deputies) None ≡ Some d → x.deputies ≡ d
+home_if true x d e = cc
+home_if false x d e = absurd cc
 
--- the script law asks nothing of an event that is no command
-no_command : (what : What) (next : Option ScriptLine) (m : Option MachineState) → commands_in what ≡ 0 → ScriptAt what next m
-no_command (Command line launched unsent poked) next m h = absurd (let e : 1 ≡ 0 = h in omega (arith, e))
-no_command _ next m h = tt
+pub home_is : (nodes : List Node) (x : Node) (d : HomeState) (o : Option HomeState) → HasHome nodes → x ≡ get_or nodes 0 x → o ≡ cond (x.id == 0) (Some x.deputies) None → o ≡ Some d → IsHomeOf nodes d
+home_is nodes x d o h at is some = record { node = h.home; first = h.first; is = ap (λ (n : Node). n.deputies) (same nodes h.first at) ∙ home_if (x.id == 0) x d (sym is ∙ some) }
+  where
+    same : (xs : List Node) → slice_get xs 0 ≡ Some h.home → x ≡ get_or xs 0 x → h.home ≡ x
+    same [] e f = absurd cc
+    same (y ∷ ys) e f = let first : y ≡ h.home = cc in sym first ∙ sym f
 
--- an event whose steps the machine makes
-pub told_more : (q : ℕ) (setup : List UserState) (script : List ScriptLine) (es : List Event) (now next : Moment) (what : What)
-    → commands_in what ≡ 0
-    → played (setup_of setup) (event_steps script what) now.machine ≡ Some next.machine
-    → ((p : ℕ) → phase_after p what (cond (nat_eq 1 p) now.phase Goes) ≡ cond (nat_eq 1 p) next.phase Goes)
-    → OnceBetween q (λ p. phase_of p es) now.machine next.machine what
-    → Told q setup script es now
-    → Told q setup script (event_after es what ∷ es) next
-told_more q setup script es now next what none step phases once t =
-    let plays : machine_of setup script (event_after es what ∷ es) ≡ Some next.machine = ap (λ o. and_then o (played (setup_of setup) (event_steps script what))) t.plays ∙ step in
-    record {
-      plays = plays;
-      phases = λ p. ap (phase_after p what) (t.phases p) ∙ phases p;
-      stamped = (refl, refl, t.stamped);
-      scripted = (no_command what (slice_get script (command_count es)) (machine_of setup script es) none, t.scripted);
-      commands = ap (λ n. command_count es + n) none ∙ add-zero (command_count es) ∙ t.commands;
-      once = (
-        subst (λ old. OnceAt q (λ p. phase_of p es) old (machine_of setup script (event_after es what ∷ es)) what) (sym t.plays)
-            (subst (λ new. OnceAt q (λ p. phase_of p es) (Some now.machine) new what) (sym plays) once),
-        t.once,
-      );
-    }
+-- ---- words of chance
 
--- ---- steps
+pub words_next : (count i word : ℕ) (made more all : List ℕ) (s rest : Stream) → i < count → made ++ words_from (count - i) s ≡ all → more ≡ made ++ word ∷ [] → (word, rest) ≡ next_u64 s → more ++ words_from (count - (i + 1)) rest ≡ all
+words_next count i word made more all s rest less is push drawn =
+    let left : count - i ≡ suc (count - (i + 1)) = omega arith in
+    ap (λ (xs : List ℕ). xs ++ words_from (count - (i + 1)) rest) push
+    ∙ (append_assoc made (word ∷ []) (words_from (count - (i + 1)) rest)
+    ∙ (ap (λ (p : ℕ × Stream). made ++ p.0 ∷ words_from (count - (i + 1)) p.1) drawn
+    ∙ (ap (λ (n : ℕ). made ++ words_from n s) (sym left) ∙ is)))
 
-live_set : (b : Bool) (users : List UserState) (u v : UserState) → cond b (at_pid users 1) None ≡ Some u → cond b (at_pid (set_pid users 1 v) 1) None ≡ Some v
-live_set false users u v h = absurd (none-some u h)
-live_set true [] u v h = absurd (none-some u h)
-live_set true (x ∷ xs) u v h = refl
+pub words_count : (n : ℕ) (s : Stream) → length (words_from n s) ≡ n
+words_count zero s = refl
+words_count (suc n) s = ap suc (words_count n (next_u64 s).1)
 
-pub live_after : (m : MachineState) (u v : UserState) → live_user m 1 ≡ Some u → live_user (with_user m 1 v) 1 ≡ Some v
-live_after m u v h = live_set (is_live m.kernel 1) m.users u v h
+-- ---- replies
 
-is_zero : (k : ℕ) → (k == 0) ≡ false → 1 ≤ k
-is_zero k h = grind (arith, nat_tests)
+and_same : (rs : List Reply3) (o : Option Reply3) → and_reply rs o ≡ rs ++ cons_option o []
+and_same rs None = sym (append-nil rs)
+and_same rs (Some r) = refl
 
-steps_made : (m : MachineState) (u : UserState) (w : Walk) → live_user m 1 ≡ Some u → advanced w.went u ≡ Some w.user → (w.went == 0) ≡ false → steps_of m 1 w.went (live_user m 1) ≡ Some (with_user m 1 w.user)
-steps_made m u w live steps some =
-    ap (λ b. cond b None (option_map (with_user m 1) (option_and_then (advanced w.went) (live_user m 1)))) some
-    ∙ ap (λ o. option_map (with_user m 1) (option_and_then (advanced w.went) o)) live
-    ∙ ap (option_map (with_user m 1)) steps
+pub reply_next : (events : List Event) (i : ℕ) (d : Event) (made more : List Reply3) → i < length events → made ≡ replies_in (take i events) → more ≡ and_reply made (reply_of (get_or events i d)) → more ≡ replies_in (take (i + 1) events)
+reply_next events i d made more less is push =
+    push ∙ (and_same made (reply_of (get_or events i d))
+    ∙ (ap (λ (rs : List Reply3). rs ++ cons_option (reply_of (get_or events i d)) []) is
+    ∙ sym (ap (filter_map reply_of) (take_more events i d less) ∙ filter_map-append reply_of (take i events) (get_or events i d ∷ []))))
 
-one_step : (setup : Setup) (s : Step) (m n : MachineState) → machine_step setup s m ≡ Some n → played setup (s ∷ []) m ≡ Some n
-one_step setup s m n h = ap (λ o. and_then o (played setup [])) h
+-- ---- the run
 
-pub told_steps : (q : ℕ) (setup : List UserState) (script : List ScriptLine) (es : List Event) (m : MachineState) (u : UserState) (w : Walk)
-    → live_user m 1 ≡ Some u → IsWalk q u w → (w.went == 0) ≡ false
-    → Told q setup script es (record { machine = m; phase = Goes })
-    → Told q setup script (event_after es (Steps 1 w.went) ∷ es) (record { machine = with_user m 1 w.user; phase = Goes })
-told_steps q setup script es m u w live is some t =
-    told_more q setup script es (record { machine = m; phase = Goes }) (record { machine = with_user m 1 w.user; phase = Goes }) (Steps 1 w.went) refl
-    (one_step (setup_of setup) (step.Steps 1 w.went) m (with_user m 1 w.user) (steps_made m u w live is.steps some))
-    (λ p. refl)
-    (t.phases 1, subst (IsQuantum q w.went) (sym (live_after m u w.user live)) (is_zero w.went some, is.most, is.pauses))
-    t
-
-pub told_sent : (q : ℕ) (setup : List UserState) (script : List ScriptLine) (es : List Event) (m : MachineState) (number : ℕ)
-    → number_asked m 1 ≡ Some number
-    → Told q setup script es (record { machine = m; phase = Goes })
-    → Told q setup script (event_after es (Sent 1 number) ∷ es) (record { machine = m; phase = Waits number })
-told_sent q setup script es m number asked t =
-    told_more q setup script es (record { machine = m; phase = Goes }) (record { machine = m; phase = Waits number }) (Sent 1 number) refl
-    refl
-    (λ p. elim (nat_eq 1 p) as (λ b. cond b (Waits number) (cond b Goes Goes) ≡ cond b (Waits number) Goes) [ true ↦ refl | false ↦ refl ])
-    (t.phases 1, asked)
-    t
-
--- ---- a call or a fault that is served
-
-if_built : (b : Bool) (o : Option MachineState) (n : MachineState) → cond b o None ≡ Some n → o ≡ Some n
-if_built true o n h = h
-if_built false o n h = absurd (none-some n h)
-
-way_steps : (way : Way) (number : ℕ) (setup : Setup) (m n : MachineState) → served_machine way number m ≡ Some n → played setup (served_step way 1 ++ []) m ≡ Some n
-way_steps Did number setup m n h = one_step setup (step.Do 1) m n (if_built (is_built number) (done_of m 1 (live_user m 1)) n h)
-way_steps Fell number setup m n h = one_step setup (step.Fall 1) m n h
-way_steps Broke number setup m n h = absurd (none-some n h)
-way_steps Paused number setup m n h = absurd (none-some n h)
-
-pub told_served : (q : ℕ) (setup : List UserState) (script : List ScriptLine) (es : List Event) (m n : MachineState) (number : ℕ)
-    → number_asked m 1 ≡ Some number
-    → served_machine (way_for number) number m ≡ Some n
-    → Told q setup script es (record { machine = m; phase = Waits number })
-    → Told q setup script (event_after es (served_what number m n) ∷ es) (record { machine = n; phase = IsServed })
-told_served q setup script es m n number asked served t =
-    told_more q setup script es (record { machine = m; phase = Waits number }) (record { machine = n; phase = IsServed }) (served_what number m n) refl
-    (way_steps (way_for number) number (setup_of setup) m n served)
-    (λ p. elim (nat_eq 1 p) as (λ b. cond b IsServed (cond b (Waits number) Goes) ≡ cond b IsServed Goes) [ true ↦ refl | false ↦ refl ]) (
-      subst (λ x. IsWaitingFor x (Some number)) (sym (t.phases 1)) refl,
-      record { numbered = sym asked; served = subst (IsWay (way_for number)) (sym asked) refl; valued = refl; ends = refl; untaken = refl; no_more = refl; unpoked = (refl, refl) },
-    )
-    t
-
-pub told_got : (q : ℕ) (setup : List UserState) (script : List ScriptLine) (es : List Event) (m : MachineState)
-    → Told q setup script es (record { machine = m; phase = IsServed })
-    → Told q setup script (event_after es (Got 1 None (is_some (ended_of m 1)) None None) ∷ es) (record { machine = m; phase = Goes })
-told_got q setup script es m t =
-    told_more q setup script es (record { machine = m; phase = IsServed }) (record { machine = m; phase = Goes }) (Got 1 None (is_some (ended_of m 1)) None None) refl
-    refl
-    (λ p. elim (nat_eq 1 p) as (λ b. cond b Goes (cond b IsServed Goes) ≡ cond b Goes Goes) [ true ↦ refl | false ↦ refl ])
-    (t.phases 1, record { childless = refl; ends = refl }, refl, refl)
-    t
+pub told_is : (nodes xs : List Node) (l : Last) (d : HomeState) (shown : Shown) (events ys : List Event) (replies : List Reply3) (journals : List JournalState) → xs ≡ nodes → ys ≡ events → IsHomeOf xs d → HomeTells shown l d → journals ≡ journals_of nodes
+    → (AreJournals 0 journals → IsRising events) → (AreJournals 0 journals → (n : ℕ) → own_events n events ≡ events_at n journals) → replies ≡ replies_in ys
+    → TellsEnd nodes l (record { events = events; statuses = shown.statuses; terminal = shown.terminal; files = shown.files; replies = replies; last = l })
+told_is nodes xs l d shown events ys replies journals same listed home tells all rising own told = record {
+  home = home.node;
+  first = ap (λ (zs : List Node). slice_get zs 0) (sym same) ∙ home.first;
+  last_is = refl;
+  statuses_are = tells.statuses_are ∙ ap (states_at l) (sym home.is);
+  terminal_is = tells.terminal_is ∙ ap (λ (x : HomeState). x.kernel.terminal) (sym home.is);
+  files_are = tells.files_are ∙ ap (λ (x : HomeState). named_files x.kernel.io.files) (sym home.is);
+  replies_are = told ∙ ap replies_in listed;
+  rising = subst (λ (js : List JournalState). AreJournals 0 js → IsRising events) all rising;
+  own = subst (λ (js : List JournalState). AreJournals 0 js → (n : ℕ) → own_events n events ≡ events_at n js) all own;
+}

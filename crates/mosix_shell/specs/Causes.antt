@@ -10,7 +10,7 @@ use Rattle.shell_text.specs.declared.fault.ScriptError.TheVariants as fault
 use Rattle.mosix_shell.specs.Told.{Seen, WhereTold, told, HasRisen}
 use Rattle.mosix_shell.specs.Orders.{IsScriptOf, IsFaultOf}
 use Rattle.mosix_shell.specs.Images.{Refusal, runs_of, images_of, AreImagesOf, IsRefused}
-use Rattle.mosix_shell.specs.Stage.{is_built_run}
+use Rattle.mosix_shell.specs.Stage.{is_built}
 use Rattle.mosix_shell.specs.declared.why.Why.{Why}
 use Rattle.mosix_shell.specs.declared.why.Why.TheVariants.{Done, Stuck, BadWords, BadScript, BadImage, ReadFault, WriteFault, NoMemory, JournalFull, NotBuilt, BadSource}
 
@@ -32,7 +32,7 @@ pub record IsUnbuilt (settings : Settings) (script : Option (List ℕ)) (files :
   pub orders : List ScriptLine
   pub users : List UserState
   pub accepted : AreAccepted settings script files orders users
-  pub unbuilt : is_built_run settings orders users ≡ false
+  pub unbuilt : is_built settings ≡ false
 
 abbrev pub CauseOf : {S I : Type 0} → Settings → Seen S (List ℕ) → Seen I (List NamedFile) → Why → Type 0
 CauseOf settings script images (BadScript line kind) = IsFaultOf settings.nodes (told script) line kind
@@ -61,7 +61,7 @@ pub data Verdict : Type 0 where
 
 abbrev pub verdict_on_users : Settings → List ScriptLine → Result (List UserState) Refusal → Verdict
 verdict_on_users settings orders (Err refusal) = HasBadImage refusal.line refusal.kind
-verdict_on_users settings orders (Ok users) = if is_built_run settings orders users then Runs else IsNotBuilt
+verdict_on_users settings orders (Ok users) = if is_built settings then Runs else IsNotBuilt
 
 abbrev pub verdict_on_script : Settings → List NamedFile → Result (List ScriptLine) ScriptError → Verdict
 verdict_on_script settings files (Err (fault.Fault line kind)) = IsFaulty line kind

@@ -37,6 +37,11 @@ IsUnread nodes left (JournalFull node) = ⊥
 IsUnread nodes left NotBuilt = ⊥
 IsUnread nodes left (BadSource line kind) = ⊥
 
+-- the orders are those of some text
+pub record IsScript (nodes : ℕ) (orders : List ScriptLine) : Type 0 where
+  pub text : List ℕ
+  pub reads : script_of nodes text ≡ Ok orders
+
 -- the words of each `run` line fit on the start stack of their process
 abbrev pub FitsStack : Order → Type 0
 FitsStack (Run words) = start_size words ≤ 8192

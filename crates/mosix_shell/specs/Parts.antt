@@ -2,30 +2,26 @@
 use Rattle.std.specs.Prelude.{◌≡◌, ◌⊎◌, ℕ, List, Option, Some, None, false}
 use Rattle.outside.specs.Outside.{NamedFile}
 use Rattle.node_event.specs.declared.script.ScriptLine.{ScriptLine}
+use Rattle.rand_core.specs.Stream.{Stream}
 use Rattle.mosix_words.specs.declared.settings.Settings.{Settings}
 use Rattle.user_spec.specs.User.{UserState}
+use Rattle.node_machine.specs.Machine.{Policy}
 use Rattle.shell_text.specs.Report.{report_writes}
 use Rattle.shell_text.specs.declared.run.Run.{Run}
 use Rattle.mosix_shell.specs.Told.{Seen, told, HasRisen, IsUntouched}
 use Rattle.mosix_shell.specs.Why.{line_of}
 use Rattle.mosix_shell.specs.Writing.{WritesSome, WritesLine}
 use Rattle.mosix_shell.specs.Images.{runs_of, AreImagesOf, IsRefused}
-use Rattle.mosix_shell.specs.Stage.{is_built_run, IsRun}
+use Rattle.mosix_shell.specs.Stage.{is_built, IsRun}
 use Rattle.mosix_shell.specs.Answers.{IsReported}
 use Rattle.mosix_shell.specs.declared.why.Why.{Why}
 use Rattle.mosix_shell.specs.declared.why.Why.TheVariants.{Done, Stuck, BadWords, BadScript, BadImage, ReadFault, WriteFault, NoMemory, JournalFull, NotBuilt, BadSource}
-
--- a run of orders and of the images of their `run` lines
-pub record IsRunFrom (settings : Settings) (files : Option (List NamedFile)) (orders : List ScriptLine) (run : Run) : Type 0 where
-  pub users : List UserState
-  pub users_are : AreImagesOf files (runs_of orders) users
-  pub is : IsRun settings orders users run
 
 -- all images are had, but a run of them is not built
 pub record IsUnbuiltFrom (settings : Settings) (files : Option (List NamedFile)) (orders : List ScriptLine) : Type 0 where
   pub users : List UserState
   pub users_are : AreImagesOf files (runs_of orders) users
-  pub unbuilt : is_built_run settings orders users ≡ false
+  pub unbuilt : is_built settings ≡ false
 
 -- why there is no run of orders
 abbrev pub IsUnrun : Settings → Option (List NamedFile) → List ScriptLine → Why → Type 0
@@ -46,27 +42,35 @@ abbrev pub IsTold : {O : Type 0} → Seen O (List ℕ) → List (List ℕ) → R
 IsTold sink report run (Some told) why = (told ≡ run) × IsReported sink report run why
 IsTold sink report run None why = (why ≡ NoMemory) × WritesSome sink report
 
--- a front of the report of some run of orders
-pub record IsPartOf {I O : Type 0} (settings : Settings) (orders : List ScriptLine) (images : Seen I (List NamedFile)) (sink : Seen O (List ℕ)) : Type 0 where
-  pub run : Run
-  pub run_from : IsRunFrom settings (told images) orders run
-  pub printed : WritesSome sink (report_writes run orders settings.events)
+-- under a policy, with a caller's words of chance
+module _ (policy : Policy) (chance : Stream) where
+  -- a run of orders and of the images of their `run` lines
+  pub record IsRunFrom (settings : Settings) (files : Option (List NamedFile)) (orders : List ScriptLine) (run : Run) : Type 0 where
+    pub users : List UserState
+    pub users_are : AreImagesOf files (runs_of orders) users
+    pub is : IsRun policy chance settings orders users run
 
--- an answer without a run, and what is written of it
-abbrev pub RefusesOrders : {I O : Type 0} → Settings → List ScriptLine → Seen I (List NamedFile) → Seen O (List ℕ) → Why → Type 0
-RefusesOrders settings orders images sink (BadImage line kind) = IsRefused (told images) (runs_of orders) line kind × WritesLine sink (line_of (BadImage line kind))
-RefusesOrders settings orders images sink NotBuilt = IsUnbuiltFrom settings (told images) orders × WritesLine sink (line_of NotBuilt)
-RefusesOrders settings orders images sink ReadFault = HasRisen images × WritesLine sink (line_of ReadFault)
-RefusesOrders settings orders images sink NoMemory = IsUntouched sink ⊎ IsPartOf settings orders images sink
-RefusesOrders settings orders images sink BadWords = ⊥
-RefusesOrders settings orders images sink (BadScript line kind) = ⊥
-RefusesOrders settings orders images sink (BadSource line kind) = ⊥
-RefusesOrders settings orders images sink Done = ⊥
-RefusesOrders settings orders images sink Stuck = ⊥
-RefusesOrders settings orders images sink WriteFault = ⊥
-RefusesOrders settings orders images sink (JournalFull node) = ⊥
+  -- a front of the report of some run of orders
+  pub record IsPartOf {I O : Type 0} (settings : Settings) (orders : List ScriptLine) (images : Seen I (List NamedFile)) (sink : Seen O (List ℕ)) : Type 0 where
+    pub run : Run
+    pub run_from : IsRunFrom settings (told images) orders run
+    pub printed : WritesSome sink (report_writes run orders settings.events)
 
--- what orders come to, and what is written of it
-abbrev pub TellsOrders : {I O : Type 0} → Settings → List ScriptLine → Seen I (List NamedFile) → Seen O (List ℕ) → Option Run → Why → Type 0
-TellsOrders settings orders images sink (Some run) why = IsRunFrom settings (told images) orders run × IsReported sink (report_writes run orders settings.events) run why
-TellsOrders settings orders images sink None why = RefusesOrders settings orders images sink why
+  -- an answer without a run, and what is written of it
+  abbrev pub RefusesOrders : {I O : Type 0} → Settings → List ScriptLine → Seen I (List NamedFile) → Seen O (List ℕ) → Why → Type 0
+  RefusesOrders settings orders images sink (BadImage line kind) = IsRefused (told images) (runs_of orders) line kind × WritesLine sink (line_of (BadImage line kind))
+  RefusesOrders settings orders images sink NotBuilt = IsUnbuiltFrom settings (told images) orders × WritesLine sink (line_of NotBuilt)
+  RefusesOrders settings orders images sink ReadFault = HasRisen images × WritesLine sink (line_of ReadFault)
+  RefusesOrders settings orders images sink NoMemory = IsUntouched sink ⊎ IsPartOf settings orders images sink
+  RefusesOrders settings orders images sink BadWords = ⊥
+  RefusesOrders settings orders images sink (BadScript line kind) = ⊥
+  RefusesOrders settings orders images sink (BadSource line kind) = ⊥
+  RefusesOrders settings orders images sink Done = ⊥
+  RefusesOrders settings orders images sink Stuck = ⊥
+  RefusesOrders settings orders images sink WriteFault = ⊥
+  RefusesOrders settings orders images sink (JournalFull node) = ⊥
+
+  -- what orders come to, and what is written of it
+  abbrev pub TellsOrders : {I O : Type 0} → Settings → List ScriptLine → Seen I (List NamedFile) → Seen O (List ℕ) → Option Run → Why → Type 0
+  TellsOrders settings orders images sink (Some run) why = IsRunFrom settings (told images) orders run × IsReported sink (report_writes run orders settings.events) run why
+  TellsOrders settings orders images sink None why = RefusesOrders settings orders images sink why

@@ -1,52 +1,86 @@
--- The run of a script's orders by the processes of its `run` lines. So far one process runs on one node.
-use Rattle.std.specs.Prelude.{◌≡◌, ℕ, Bool, true, false, ◌&&◌, ◌==◌, List, [], ◌∷◌, Option, Some, None}
-use Rattle.node_event.specs.declared.script.Order.{Order}
-use Rattle.node_event.specs.declared.script.Order.TheVariants.{Run}
+-- The run of a script's orders by the processes of its `run` lines.
+use Rattle.std.specs.Prelude.{◌≡◌, ℕ, zero, suc, ◌+◌, ◌-◌, Bool, true, ◌==◌, List, [], ◌∷◌, slice_index, Option, Some, None}
+use Rattle.rand_core.specs.Stream.{Stream, next_u64}
+use Rattle.rand_core.specs.Steps.{stream_of, steps_u32}
+use Rattle.rand_pcg.specs.Pcg.{pcg32}
 use Rattle.node_event.specs.declared.script.ScriptLine.{ScriptLine}
 use Rattle.mosix_words.specs.declared.settings.Settings.{Settings}
 use Rattle.user_spec.specs.User.{UserState}
-use Rattle.shell_text.specs.declared.run.Run as runs
-use Rattle.mosix_shell.specs.Turns.{story_of, ends}
-use Rattle.mosix_shell.specs.Running.{IsRunOfStory}
-use Rattle.mosix_shell.specs.Headline.{Replays, IsLawful}
+use Rattle.node_machine.specs.Plan.{Plan}
+use Rattle.node_machine.specs.Machine.{Policy}
+use Rattle.node_core.specs.declared.node.Node.{Node}
+use Rattle.node_core.specs.declared.shape.Shape.{Shape}
+use Rattle.node_core.specs.Making.{seeded, new_node}
+use Rattle.node_core.specs.Suits.{word_after}
+use Rattle.cluster_run.specs.declared.over.OverWhy.{OverWhy}
+use Rattle.cluster_run.specs.declared.over.OverWhy.TheVariants as why
+use Rattle.cluster_run.specs.Over.{Begins}
+use Rattle.shell_text.specs.declared.run.Last.{Last}
+use Rattle.shell_text.specs.declared.run.Last.TheVariants as last
+use Rattle.shell_text.specs.declared.run.Run.{Run}
+use Rattle.mosix_shell.specs.Headline.{Headline}
 
--- ---- the forms that are built
+-- ---- words of chance
 
--- one node, and turns and a journal of the lengths that they have where the words name no others
-abbrev pub are_built_settings : Settings → Bool
-are_built_settings s = s.nodes == 1 && (s.quantum == 16384 && s.journal == 262144)
+-- the next so many words of a stream
+abbrev pub words_from : ℕ → Stream → List ℕ
+words_from zero s = []
+words_from (suc n) s = (next_u64 s).0 ∷ words_from n (next_u64 s).1
 
--- the number of the one line that does something, where it launches
-abbrev pub launching : ℕ → Order → Option ℕ
-launching line (Run words) = Some line
-launching line _ = None
+-- the seed that the words give is that of a generator; without one it is the caller's
+abbrev pub chance_of : Option ℕ → Stream → Stream
+chance_of None chance = chance
+chance_of (Some seed) chance = stream_of (steps_u32 pcg32) (seeded seed)
 
-abbrev pub only_line : List ScriptLine → Option ℕ
-only_line [] = None
-only_line (l ∷ []) = launching l.line l.order
-only_line (l ∷ k ∷ ls) = None
+-- each node's generator starts from a word of its own
+abbrev pub seeds_of : Settings → Stream → List ℕ
+seeds_of settings chance = words_from settings.nodes (chance_of settings.seed chance)
 
--- its process ends within a run
-abbrev pub ends_as : Option ℕ → List UserState → Bool
-ends_as None users = false
-ends_as (Some line) [] = false
-ends_as (Some line) (u ∷ []) = ends line u
-ends_as (Some line) (u ∷ v ∷ us) = false
+-- ---- the nodes of a run, before anything happened
 
-abbrev pub is_built_run : Settings → List ScriptLine → List UserState → Bool
-is_built_run settings orders users = are_built_settings settings && ends_as (only_line orders) users
+-- the shape of the cluster, and the seed of one node
+abbrev pub shape_of : Settings → ℕ → Shape
+shape_of settings word = record { nodes = settings.nodes; cap = settings.pages; quantum = settings.quantum; journal = settings.journal; word = word }
+
+-- so many other nodes, from this one on
+abbrev pub away_nodes : Settings → List ℕ → ℕ → ℕ → List Node
+away_nodes settings seeds id zero = []
+away_nodes settings seeds id (suc n) = new_node id (shape_of settings (slice_index seeds id)) [] [] ∷ away_nodes settings seeds (id + 1) n
+
+-- home has the script and the processes of its `run` lines
+abbrev pub first_nodes : Settings → List ℕ → List ScriptLine → List UserState → List Node
+first_nodes settings seeds orders users = new_node 0 (shape_of settings (slice_index seeds 0)) orders users ∷ away_nodes settings seeds 1 (settings.nodes - 1)
+
+-- the nodes begin a run of some plan
+pub record BeginsSome (nodes : List Node) : Type 0 where
+  pub plan : Plan
+  pub room : ℕ
+  pub begins : Begins plan room nodes
+
+-- how a run ended, by why it is over
+abbrev pub last_of : OverWhy → Option Last
+last_of why.Done = Some last.Done
+last_of why.Stuck = Some last.Stuck
+last_of (why.Full node) = Some (last.Full node)
+last_of why.NotBuilt = None
 
 -- ---- a run
 
--- it tells the whole story of its process
-abbrev pub TellsStory : List ScriptLine → List UserState → runs.Run → Type 0
-TellsStory (l ∷ []) (u ∷ []) run = IsRunOfStory run (story_of l.line u)
-TellsStory _ _ run = ⊥
+-- so far of one node
+abbrev pub is_built : Settings → Bool
+is_built settings = settings.nodes == 1
 
-pub record IsRun (settings : Settings) (orders : List ScriptLine) (users : List UserState) (run : runs.Run) : Type 0 where
-  pub built : is_built_run settings orders users ≡ true
-  pub story : TellsStory orders users run
-  -- its own events, played on one node, give what it tells; it is done, and every process has ended
-  pub replays : Replays users orders run
-  -- its events are lawful, and each live process is in one place after each of them
-  pub lawful : IsLawful settings.quantum users orders run
+abbrev pub plan_of : Stream → Settings → List ScriptLine → List UserState → Plan
+plan_of chance settings orders users = record {
+  script = orders;
+  users = users;
+  nodes = settings.nodes;
+  cap = settings.pages;
+  quantum = settings.quantum;
+  word = λ n k. word_after k (seeded (slice_index (seeds_of settings chance) n));
+}
+
+module _ (policy : Policy) (chance : Stream) where
+  pub record IsRun (settings : Settings) (orders : List ScriptLine) (users : List UserState) (run : Run) : Type 0 where
+    pub built : is_built settings ≡ true
+    pub headline : Headline policy (plan_of chance settings orders users) settings.journal run

@@ -2,12 +2,14 @@
 #![tactic(auto)]
 
 pub mod assembling;
+mod chance;
+mod copying;
 pub mod images;
+mod left;
 pub mod mosix;
 pub mod orders;
-pub mod phase;
 pub mod reading;
-pub mod run;
 pub mod stage;
 pub mod status;
+pub mod usher;
 pub mod why;

@@ -2,11 +2,13 @@
 ghost use Rattle.std.specs.Prelude.{◌≡◌, ◌⊎◌, ◌+◌, Some, None, Err, IfOk, IfErr};
 ghost use Rattle.outside.specs.Outside.{Rose};
 ghost use Rattle.mosix_words.specs.Settings.{settings_of};
+ghost use Rattle.node_machine.specs.Policy.{given_by};
 ghost use Rattle.shell_text.specs.Report.{report_writes};
 ghost use Rattle.mosix_shell.specs.Told.{seen};
 ghost use Rattle.mosix_shell.specs.Why.{status_of, line_of};
 ghost use Rattle.mosix_shell.specs.Writing.{WritesLine};
-ghost use Rattle.mosix_shell.specs.Orders.{FitStacks};
+ghost use Rattle.mosix_shell.specs.Orders.{FitStacks, IsScript};
+ghost use Rattle.mosix_shell.specs.Ranges.{IsInRange};
 ghost use Rattle.mosix_shell.specs.Answers.{Answers, AnswersIn, RunAnswers, AsmAnswers};
 ghost use Rattle.mosix_shell.specs.Parts.{IsRunFrom, IsUnrun, IsTold, TellsOrders};
 
@@ -19,6 +21,8 @@ use call_table::Words;
 use mosix_words::{Mode, Settings, WordsError, mode_of};
 use node_event::Script;
 use outside::{Images, Sink, Source};
+use policy_box::{Chooser, Policy};
+use rand_core::Rng;
 use shell_text::{PrintFault, Run, print_report, write_bytes};
 use std::alloc::Global;
 
@@ -62,14 +66,18 @@ fn refuse<O: Sink>(alloc: Global, out: &mut O, why: Why) -> Ended
 // ---- mode `run`
 
 /// The run of a script's orders.
-fn run_of<I: Images>(
+fn run_of<I: Images, R: Rng, P: Chooser>(
     alloc: Global,
     settings: &Settings,
     orders: &Script,
     images: &mut I,
+    rng: &mut R,
+    policy: &Policy<P>,
 ) -> Result<Run, Why>
-    requires { FitStacks orders.now }
-    ensures run { IfOk result (IsRunFrom settings.now (I.files images.old) orders.now) }
+    requires fit { FitStacks orders.now }
+    requires range { IsInRange settings.now }
+    requires script { IsScript settings.now.nodes orders.now }
+    ensures run { IfOk result (IsRunFrom (given_by (P.answers policy.now)) (R.stream rng.old) settings.now (I.files images.old) orders.now) }
     ensures none { IfErr result (IsUnrun settings.now (I.files images.old) orders.now) }
     ensures fault { result ≡ Err Why.ReadFault → Rose (I.faults images.old) (I.faults images.new) }
 {
@@ -77,7 +85,7 @@ fn run_of<I: Images>(
         Ok(users) => users,
         Err(why) => return Err(why),
     };
-    match run_users(alloc, settings, orders, users) {
+    match run_users(alloc, settings, orders, users, rng, policy) {
         Ok(run) => Ok(run),
         Err(Unrun::NotBuilt) => Err(Why::NotBuilt),
         Err(Unrun::NoMemory) => Err(Why::NoMemory),
@@ -103,36 +111,43 @@ fn tell<O: Sink>(
 }
 
 /// Runs a script's orders and writes the report.
-fn run_orders<I: Images, O: Sink>(
+fn run_orders<I: Images, O: Sink, R: Rng, P: Chooser>(
     alloc: Global,
     settings: &Settings,
     orders: &Script,
     images: &mut I,
     out: &mut O,
+    rng: &mut R,
+    policy: &Policy<P>,
 ) -> Ended
-    requires { FitStacks orders.now }
+    requires fit { FitStacks orders.now }
+    requires range { IsInRange settings.now }
+    requires script { IsScript settings.now.nodes orders.now }
     ensures status { result.status ≡ status_of result.why }
-    ensures tells { TellsOrders settings.now orders.now (seen I.files I.faults images.old images.new) (seen O.written O.faults out.old out.new) result.run result.why }
+    ensures tells { TellsOrders (given_by (P.answers policy.now)) (R.stream rng.old) settings.now orders.now (seen I.files I.faults images.old images.new) (seen O.written O.faults out.old out.new) result.run result.why }
 {
-    match run_of(alloc, settings, orders, images) {
+    match run_of(alloc, settings, orders, images, rng, policy) {
         Ok(run) => tell(alloc, settings, orders, run, out),
         Err(why) => refuse(alloc, out, why),
     }
 }
 
 /// Mode `run`: from the script to the report.
-fn run_script<S: Source, I: Images, O: Sink>(
+fn run_script<S: Source, I: Images, O: Sink, R: Rng, P: Chooser>(
     alloc: Global,
     settings: &Settings,
     script: &mut S,
     images: &mut I,
     out: &mut O,
+    rng: &mut R,
+    policy: &Policy<P>,
 ) -> Ended
+    requires { IsInRange settings.now }
     ensures status { result.status ≡ status_of result.why }
-    ensures answers { RunAnswers settings.now (seen S.left S.faults script.old script.new) (seen I.files I.faults images.old images.new) (seen O.written O.faults out.old out.new) result }
+    ensures answers { RunAnswers (given_by (P.answers policy.now)) (R.stream rng.old) settings.now (seen S.left S.faults script.old script.new) (seen I.files I.faults images.old images.new) (seen O.written O.faults out.old out.new) result }
 {
     match read_orders(alloc, script, settings.nodes) {
-        Ok(orders) => run_orders(alloc, settings, &orders, images, out),
+        Ok(orders) => run_orders(alloc, settings, &orders, images, out, rng, policy),
         Err(why) => refuse(alloc, out, why),
     }
 }
@@ -162,41 +177,47 @@ fn assemble_script<S: Source, I: Images, O: Sink>(
 // ---- all modes
 
 /// What the words ask for.
-fn run_settings<S: Source, I: Images, O: Sink>(
+fn run_settings<S: Source, I: Images, O: Sink, R: Rng, P: Chooser>(
     alloc: Global,
     settings: &Settings,
     script: &mut S,
     images: &mut I,
     out: &mut O,
+    rng: &mut R,
+    policy: &Policy<P>,
 ) -> Ended
+    requires { IsInRange settings.now }
     ensures status { result.status ≡ status_of result.why }
-    ensures answers { AnswersIn settings.now.mode settings.now (seen S.left S.faults script.old script.new) (seen I.files I.faults images.old images.new) (seen O.written O.faults out.old out.new) result }
+    ensures answers { AnswersIn (given_by (P.answers policy.now)) (R.stream rng.old) settings.now.mode settings.now (seen S.left S.faults script.old script.new) (seen I.files I.faults images.old images.new) (seen O.written O.faults out.old out.new) result }
 {
     match settings.mode {
-        Mode::Run => run_script(alloc, settings, script, images, out),
+        Mode::Run => run_script(alloc, settings, script, images, out, rng, policy),
         Mode::Asm => assemble_script(alloc, script, images, out),
         Mode::Gen => refuse(alloc, out, Why::NotBuilt),
     }
 }
 
-/// All that the program does, by its words without its own name.
-pub fn mosix<S: Source, I: Images, O: Sink>(
+/// All that the program does, by its words without its own name. A run's moves are chosen by the policy, and its words of chance come from the seed that the
+/// words give, else from `rng`.
+pub fn mosix<S: Source, I: Images, O: Sink, R: Rng, P: Chooser>(
     alloc: Global,
     words: &Words,
     script: &mut S,
     images: &mut I,
     out: &mut O,
+    rng: &mut R,
+    policy: &Policy<P>,
 ) -> Ended
     ensures status { result.status ≡ status_of result.why }
     // What each mode promises, and words of no mode: `RunAnswers`, `AsmAnswers`, `Refuses`.
-    ensures answers { Answers (settings_of words.now) (seen S.left S.faults script.old script.new) (seen I.files I.faults images.old images.new) (seen O.written O.faults out.old out.new) result }
+    ensures answers { Answers (given_by (P.answers policy.now)) (R.stream rng.old) (settings_of words.now) (seen S.left S.faults script.old script.new) (seen I.files I.faults images.old images.new) (seen O.written O.faults out.old out.new) result }
 
     // A fault of reading or writing has its cause.
     ensures read { result.why ≡ Why.ReadFault → Rose (S.faults script.old) (S.faults script.new) ⊎ Rose (I.faults images.old) (I.faults images.new) }
     ensures write { result.why ≡ Why.WriteFault → Rose (O.faults out.old) (O.faults out.new) }
 {
     match mode_of(alloc, words) {
-        Ok(settings) => run_settings(alloc, &settings, script, images, out),
+        Ok(settings) => run_settings(alloc, &settings, script, images, out, rng, policy),
         Err(WordsError::BadWords) => refuse(alloc, out, Why::BadWords),
         Err(WordsError::NoMemory) => answer(Why::NoMemory, None),
     }

@@ -1,20 +1,26 @@
-// The run of a script by the processes of its `run` lines. So far one process runs on one node: another form is not built.
-ghost use Rattle.std.specs.Prelude.{◌≡◌, ◌∷◌, [], Err, IfOk, IfSome, IfNone, false, length, ◌==◌};
-ghost use Rattle.mosix_shell.specs.Stage.{are_built_settings, only_line, is_built_run, IsRun};
+// The run of a script by the processes of its `run` lines. So far a cluster has one node: another is not built.
+ghost use Rattle.std.specs.Prelude.{◌≡◌, ◌≤◌, ℕ, None, Err, IfOk, IfSome, false, length};
+ghost use Rattle.node_machine.specs.Policy.{given_by};
+ghost use Rattle.node_machine.specs.Plan.{Plan as run_plan, IsPlan};
+ghost use Rattle.cluster_run.specs.Over.{Begins};
+ghost use Rattle.mosix_shell.specs.Headline.{Headline};
+ghost use Rattle.mosix_shell.specs.Stage.{is_built, shape_of, seeds_of, first_nodes, plan_of, last_of, BeginsSome, IsRun};
+ghost use Rattle.mosix_shell.specs.Ranges.{IsInRange};
 
-use crate::run::run_process;
+use crate::chance::seeds_of;
+use crate::copying::copied_script;
+use crate::left::told_by;
+use call_table::NoMemory;
+use cluster_run::{Nodes, OverWhy, run_serial};
 use mosix_words::Settings;
-use node_event::{Order, Script, ScriptLine};
-use shell_text::Run;
+use node_core::{Node, Plan, Shape};
+use node_event::{Script, ScriptLine};
+use node_links::ring_carriers;
+use policy_box::{Chooser, Policy};
+use rand_core::Rng;
+use shell_text::{Last, Run};
 use std::alloc::Global;
-use user_ctx::{User, Users};
-
-/// The number of nodes, the steps of a turn and the events of a journal that are built.
-const NODES: u8 = 1;
-
-const QUANTUM: u32 = 16_384;
-
-const JOURNAL: u32 = 262_144;
+use user_ctx::Users;
 
 /// Why there is no run.
 #[derive(Clone, Copy, Debug, PartialEq, Eq)]
@@ -23,65 +29,123 @@ pub enum Unrun {
     NoMemory,
 }
 
-fn are_built_settings(settings: &Settings) -> bool
-    ensures { result ≡ are_built_settings settings.now }
+fn is_built(settings: &Settings) -> bool
+    ensures { result ≡ is_built settings.now }
 {
-    if settings.nodes != NODES {
-        return false;
-    }
-    if settings.quantum != QUANTUM {
-        return false;
-    }
-    settings.journal == JOURNAL
+    settings.nodes == 1
 }
 
-/// The number of the one line that does something, where it launches.
-fn only_line(orders: &[ScriptLine]) -> Option<u32>
-    ensures { result ≡ only_line orders.now }
+/// The shape of the cluster, with the seed of one node.
+fn shape_of(settings: &Settings, word: u64) -> Shape
+    ensures { result ≡ shape_of settings.now word }
 {
-    match orders {
-        [ordered] => match ordered.order {
-            Order::Run { .. } => Some(ordered.line),
-            _ => None,
-        },
-        _ => None,
+    Shape {
+        nodes: settings.nodes,
+        cap: settings.pages,
+        quantum: settings.quantum,
+        journal: settings.journal,
+        word,
     }
 }
 
-/// The one process.
-fn only_user(users: Users) -> Option<User>
-    ensures some { IfSome result (λ user. users ≡ user ∷ []) }
-    ensures none { IfNone result ((length users == 1) ≡ false) }
+/// Home with the script and the processes of its `run` lines, and the other nodes.
+fn first_nodes(
+    alloc: Global,
+    settings: &Settings,
+    seeds: &[u64],
+    script: Script,
+    users: Users,
+) -> Result<Nodes, NoMemory>
+    requires least { 1 ≤ settings.now.nodes }
+    requires seeds { length seeds.now ≡ settings.now.nodes }
+    ensures { IfOk result (λ nodes. nodes ≡ first_nodes settings.now seeds.now script users) }
 {
-    let mut users = users;
-    if users.len() != 1 {
-        return None;
+    let mut nodes = Nodes::new(alloc);
+    let plan = Plan { script, users };
+    nodes.push(Node::home(alloc, shape_of(settings, seeds[0]), plan)?)?;
+    for id in 1..settings.nodes {
+        let shape = shape_of(settings, seeds[id as usize]);
+        nodes.push(Node::away(alloc, id, shape)?)?;
     }
-    users.pop()
+    Ok(nodes)
 }
 
-#[tactic(auto, using(crate::proofs::Stages::settings_unbuilt, crate::proofs::Stages::line_unbuilt, crate::proofs::Stages::users_unbuilt, crate::proofs::Stages::story_unbuilt))]
+/// How a run ended. None exactly where a turn was not built.
+fn last_of(why: OverWhy) -> Option<Last>
+    ensures { result ≡ last_of why }
+{
+    match why {
+        OverWhy::Done => Some(Last::Done),
+        OverWhy::Stuck => Some(Last::Stuck),
+        OverWhy::Full { node } => Some(Last::Full(node)),
+        OverWhy::NotBuilt => None,
+    }
+}
+
+/// The nodes of a run before anything happened.
+#[tactic(auto, using(crate::proofs::Telling::words_count))]
+fn staged<R: Rng>(
+    alloc: Global,
+    settings: &Settings,
+    orders: &[ScriptLine],
+    users: Users,
+    rng: &mut R,
+) -> Result<Nodes, NoMemory>
+    requires { 1 ≤ settings.now.nodes }
+    ensures { IfOk result (λ nodes. nodes ≡ first_nodes settings.now (seeds_of settings.now (R.stream rng.old)) orders.now users) }
+{
+    let seeds = seeds_of(alloc, settings, rng)?;
+    let script = copied_script(alloc, orders)?;
+    let nodes = first_nodes(alloc, settings, seeds.as_slice(), script, users)?;
+    Ok(nodes)
+}
+
+/// The run of nodes that have done nothing, to what they tell at its end. None where a turn was not built.
+fn played<P: Chooser>(
+    alloc: Global,
+    settings: &Settings,
+    nodes: Nodes,
+    policy: &Policy<P>,
+) -> Result<Option<Run>, NoMemory>
+    requires range { IsInRange settings.now }
+    requires count { length nodes ≡ settings.now.nodes }
+    requires begins { BeginsSome nodes }
+    ensures whole { IfOk result (λ whole. IfSome whole (λ run. (plan : run_plan) (room : ℕ) → Begins plan room nodes → Headline (given_by (P.answers policy.now)) plan room run)) }
+    ensures built { IfOk result (λ whole. whole ≡ None → settings.now.nodes ≡ 1 → ⊥) }
+{
+    policy.is_fitting();
+    let carriers = ring_carriers(alloc, settings.nodes)?;
+    let over = run_serial(alloc, nodes, carriers, policy)?;
+    let Some(last) = last_of(over.why) else {
+        return Ok(None);
+    };
+    let told = told_by(alloc, last, over.nodes)?;
+    Ok(Some(told))
+}
+
 /// A run of orders by the processes of their `run` lines. `NotBuilt` comes exactly where a run of them is not built.
-pub fn run_users(
+pub fn run_users<R: Rng, P: Chooser>(
     alloc: Global,
     settings: &Settings,
     orders: &Script,
     users: Users,
+    rng: &mut R,
+    policy: &Policy<P>,
 ) -> Result<Run, Unrun>
-    ensures run { IfOk result (IsRun settings.now orders.now users) }
-    ensures unbuilt { result ≡ Err Unrun.NotBuilt → is_built_run settings.now orders.now users ≡ false }
+    requires range { IsInRange settings.now }
+    requires plan { IsPlan (plan_of (R.stream rng.old) settings.now orders.now users) }
+    ensures run { IfOk result (IsRun (given_by (P.answers policy.now)) (R.stream rng.old) settings.now orders.now users) }
+    ensures unbuilt { result ≡ Err Unrun.NotBuilt → is_built settings.now ≡ false }
 {
-    if !are_built_settings(settings) {
+    if !is_built(settings) {
         return Err(Unrun::NotBuilt);
     }
-    let Some(line) = only_line(orders.as_slice()) else {
-        return Err(Unrun::NotBuilt);
+    let nodes = match staged(alloc, settings, orders.as_slice(), users, rng) {
+        Ok(nodes) => nodes,
+        Err(_) => return Err(Unrun::NoMemory),
     };
-    let Some(user) = only_user(users) else {
-        return Err(Unrun::NotBuilt);
-    };
-    match run_process(alloc, line, user) {
-        Ok(Some(run)) => Ok(run),
+    match played(alloc, settings, nodes, policy) {
+        Ok(Some(whole)) => Ok(whole),
         Ok(None) => Err(Unrun::NotBuilt),
         Err(_) => Err(Unrun::NoMemory),
     }

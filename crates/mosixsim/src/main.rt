@@ -2,14 +2,19 @@
 #![tactic(auto)]
 
 use call_table::{NoMemory, Text, Words};
-use mosix_shell::mosix::mosix;
 use mosix_shell::status;
+use mosix_shell::usher::mosix_usher;
 use outside::{FileImages, StdSink, StdSource};
+use rand_core::SeedableRng;
+use rand_pcg::Pcg32;
 use std::alloc::Global;
 use std::io::ErrorKind;
 use std::process::ExitCode;
 use std::rt::Env;
 use std::{env, io};
+
+/// The seed of the words of chance, where the program's words give none.
+const SEED: u64 = 1;
 
 /// The words of the program without its own name. A word that is not UTF-8 makes them no words at all,
 /// which no command line is.
@@ -34,6 +39,7 @@ fn main(rt: HostRuntime) -> ExitCode {
     let mut source = StdSource::new(rt.reader());
     let mut images = FileImages::new(rt.clone().unwrap());
     let mut sink = StdSink::new(io::writer(&rt));
-    let ended = mosix(alloc, &words, &mut source, &mut images, &mut sink);
+    let mut rng = Pcg32::seed_from_u64(SEED);
+    let ended = mosix_usher(alloc, &words, &mut source, &mut images, &mut sink, &mut rng);
     ExitCode::from(ended.status)
 }

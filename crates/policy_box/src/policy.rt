@@ -35,6 +35,13 @@ impl<C: Chooser> Policy<C> {
         Policy { chooser }
     }
 
+    /// Each choice that the chooser may make on a sight in range fits it: this says so, and does nothing.
+    pub fn is_fitting(&self)
+        ensures { ChoosesFit C.answers self.now }
+    {
+        let _chooser = &self.chooser;
+    }
+
     /// The chooser's answer. On a sight in range it is the only one, and a choice of a process that may move and of a known node other than
     /// the sight's own. It takes no memory.
     pub fn ask(&self, sight: &Sight) -> Option<Choice>

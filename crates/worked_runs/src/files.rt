@@ -104,7 +104,11 @@ const REPORTS: [(&[u8], u8, &[u8]); 6] = [
     ),
     (READ_NOWHERE, 0, b"terminal 0\n\nprocess 1 exit 14\ndone\n"),
     (READ_STACK, 0, b"terminal 0\n\nprocess 1 exit 9\ndone\n"),
-    (READ_TERMINAL, 10, b"not built\n"),
+    (
+        READ_TERMINAL,
+        1,
+        b"terminal 0\n\nprocess 1 blocked 8\nstuck\n",
+    ),
     (
         TWO_FILES,
         0,

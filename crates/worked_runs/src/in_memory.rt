@@ -3,6 +3,9 @@ use call_table::{Bytes, Named, Names, NoMemory, Text, Words};
 use mosix_shell::mosix::{Ended, mosix};
 use mosix_shell::why::Why;
 use outside::{Calls, MemImages, MemSink, MemSource};
+use policy_box::never_policy;
+use rand_core::SeedableRng;
+use rand_pcg::Pcg32;
 use std::alloc::Global;
 use std::process::Abort;
 
@@ -72,7 +75,11 @@ pub fn run_to_end(
     sink: &mut MemSink,
 ) -> Result<Ended, NoMemory> {
     let words = words_of(alloc, words)?;
-    Ok(mosix(alloc, &words, source, images, sink))
+    let mut rng = Pcg32::seed_from_u64(1);
+    let policy = never_policy();
+    Ok(mosix(
+        alloc, &words, source, images, sink, &mut rng, &policy,
+    ))
 }
 
 /// The status of one run, and why.

@@ -10,6 +10,8 @@ mod in_memory;
 #[cfg(test)]
 mod play;
 #[cfg(test)]
+mod processes;
+#[cfg(test)]
 mod reports;
 #[cfg(test)]
 mod runs;

@@ -15,7 +15,7 @@ fn run(alloc: Global, words: &[&str], script: &[u8], failing: Failing) -> Result
 }
 
 /// The status of a script's run, and its report or line.
-const SCRIPTS: [(&[u8], u8, &[u8]); 19] = [
+const SCRIPTS: [(&[u8], u8, &[u8]); 18] = [
     (
         b"run hello",
         0,
@@ -31,8 +31,7 @@ const SCRIPTS: [(&[u8], u8, &[u8]); 19] = [
         0,
         b"terminal 3\nhi\n\nprocess 1 exit 0\ndone\n",
     ),
-    (b"run hello\nrun hello\n", 10, b"not built\n"),
-    (b"", 10, b"not built\n"),
+    (b"# none\n", 0, b"terminal 0\n\ndone\n"),
     (
         b"run  hello",
         0,
@@ -53,8 +52,12 @@ const SCRIPTS: [(&[u8], u8, &[u8]); 19] = [
         0,
         b"terminal 3\nhi\n\nprocess 1 exit 0\ndone\n",
     ),
-    (b"run hello\neof\n", 10, b"not built\n"),
-    (b"type run hello\n", 10, b"not built\n"),
+    (
+        b"run hello\neof\n",
+        0,
+        b"terminal 3\nhi\n\nprocess 1 exit 0\ndone\n",
+    ),
+    (b"type run hello\n", 0, b"terminal 0\n\ndone\n"),
     (b"walk hello\n", 3, b"bad script 1 3\n"),
     (b"run cut", 4, b"bad image 1 1\n"),
     (b"run short", 4, b"bad image 1 8\n"),
@@ -175,13 +178,13 @@ const WORDS: [(&[&str], u8, &[u8]); 26] = [
     (&["--nodes", "2", "run"], 10, b"not built\n"),
     (
         &["--nodes", "1", "--quantum", "64", "run"],
-        10,
-        b"not built\n",
+        0,
+        HELLO_REPORT,
     ),
     (
-        &["--nodes", "1", "--journal", "16", "run"],
-        10,
-        b"not built\n",
+        &["--nodes", "1", "--journal", "9", "run"],
+        0,
+        HELLO_REPORT,
     ),
     (&["gen"], 10, b"not built\n"),
     (&["--nodes", "1", "asm"], 11, b"bad source 1 2\n"),
