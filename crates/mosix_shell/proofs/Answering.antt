@@ -24,10 +24,9 @@ use Rattle.mosix_shell.specs.Why.{line_of, has_run, why_of_last, cuts_short}
 use Rattle.mosix_shell.specs.Writing.{WritesAll, WritesFront, WritesSome, WritesLine}
 use Rattle.mosix_shell.specs.Orders.{IsScriptOf, IsFaultOf, IsUnread}
 use Rattle.mosix_shell.specs.Images.{Refusal, RunLine, runs_of, images_of, AreImagesOf, IsRefused}
-use Rattle.mosix_shell.specs.Stage.{is_built}
-use Rattle.mosix_shell.specs.Causes.{AreAccepted, HasRefused, IsUnbuilt, CauseOf, Verdict, IsFaulty, HasBadImage, IsNotBuilt, Runs, verdict_on_users, verdict_on_script, verdict_of, Follows, IsComplete}
+use Rattle.mosix_shell.specs.Causes.{AreAccepted, HasRefused, CauseOf, Verdict, IsFaulty, HasBadImage, Runs, verdict_on_users, verdict_on_script, verdict_of, Follows, IsComplete}
 use Rattle.mosix_shell.specs.Answers.{IsRunOf, IsReported, TellsRun, IsPartlyTold, WritesAnswer, TellsNone, Tells, RunAnswers, AsmAnswers, Refuses, AnswersIn, Answers}
-use Rattle.mosix_shell.specs.Parts.{IsRunFrom, IsUnbuiltFrom, IsUnrun, IsTold, IsPartOf, RefusesOrders, TellsOrders}
+use Rattle.mosix_shell.specs.Parts.{IsRunFrom, IsUnrun, IsTold, IsPartOf, RefusesOrders, TellsOrders}
 use Rattle.mosix_shell.specs.declared.mosix.Ended.{Ended}
 use Rattle.mosix_shell.specs.declared.why.Why.{Why}
 use Rattle.mosix_shell.specs.declared.why.Why.TheVariants.{Done, Stuck, BadWords, BadScript, BadImage, ReadFault, WriteFault, NoMemory, JournalFull, NotBuilt, BadSource}
@@ -74,9 +73,9 @@ module _ (policy : Policy) (chance : Stream) {I O : Type 0} (settings : Settings
   pub orders_told : (run : Run) (ended : Ended) → IsRunFrom policy chance settings (told images) orders run → IsTold sink (report_writes run orders settings.events) run ended.run ended.why → TellsOrders policy chance settings orders images sink ended.run ended.why
   orders_told run ended r t = tells_run run ended.run ended.why r t
 
-  refused_so : (why : Why) → IsUnrun settings (told images) orders why → (why ≡ ReadFault → HasRisen images) → WritesLine sink (line_of why) → RefusesOrders policy chance settings orders images sink why
+  refused_so : (why : Why) → IsUnrun (told images) orders why → (why ≡ ReadFault → HasRisen images) → WritesLine sink (line_of why) → RefusesOrders policy chance settings orders images sink why
   refused_so (BadImage line kind) u f w = (u, w)
-  refused_so NotBuilt u f w = (u, w)
+  refused_so NotBuilt u f w = absurd u
   refused_so ReadFault u f w = (f refl, w)
   refused_so NoMemory u f w = inl w
   refused_so BadWords u f w = absurd u
@@ -87,17 +86,17 @@ module _ (policy : Policy) (chance : Stream) {I O : Type 0} (settings : Settings
   refused_so WriteFault u f w = absurd u
   refused_so (JournalFull node) u f w = absurd u
 
-  refused_as : (why told' : Why) → ((told' ≡ why) ⊎ (told' ≡ NoMemory)) → IsUnrun settings (told images) orders why → (why ≡ ReadFault → HasRisen images) → WritesLine sink (line_of told') → RefusesOrders policy chance settings orders images sink told'
-  refused_as why told' (inl e) u f w = refused_so told' (subst (IsUnrun settings (told images) orders) (sym e) u) (λ h. f (sym e ∙ h)) w
+  refused_as : (why told' : Why) → ((told' ≡ why) ⊎ (told' ≡ NoMemory)) → IsUnrun (told images) orders why → (why ≡ ReadFault → HasRisen images) → WritesLine sink (line_of told') → RefusesOrders policy chance settings orders images sink told'
+  refused_as why told' (inl e) u f w = refused_so told' (subst (IsUnrun (told images) orders) (sym e) u) (λ h. f (sym e ∙ h)) w
   refused_as why told' (inr e) u f w = subst (RefusesOrders policy chance settings orders images sink) (sym e) (inl (subst (λ y. WritesLine sink (line_of y)) e w))
 
-  pub orders_refused : (why : Why) (ended : Ended) → ended.run ≡ None → ((ended.why ≡ why) ⊎ (ended.why ≡ NoMemory)) → IsUnrun settings (told images) orders why → (why ≡ ReadFault → HasRisen images) → WritesLine sink (line_of ended.why)
+  pub orders_refused : (why : Why) (ended : Ended) → ended.run ≡ None → ((ended.why ≡ why) ⊎ (ended.why ≡ NoMemory)) → IsUnrun (told images) orders why → (why ≡ ReadFault → HasRisen images) → WritesLine sink (line_of ended.why)
       → TellsOrders policy chance settings orders images sink ended.run ended.why
   orders_refused why ended none is u f w = subst (λ o. TellsOrders policy chance settings orders images sink o ended.why) (sym none) (refused_as why ended.why is u f w)
 
 -- ---- mode `run`: completeness
 
-completes : (settings : Settings) (script : Option (List ℕ)) (files : Option (List NamedFile)) (why : Why) (v : Verdict) → Follows why v → ((s : List ℕ) (fs : List NamedFile) → script ≡ Some s → files ≡ Some fs → verdict_of settings s fs ≡ v) → IsComplete settings script files why
+completes : (settings : Settings) (script : Option (List ℕ)) (files : Option (List NamedFile)) (why : Why) (v : Verdict) → Follows why v → ((s : List ℕ) (fs : List NamedFile) → script ≡ Some s → files ≡ Some fs → verdict_of settings.nodes s fs ≡ v) → IsComplete settings script files why
 completes settings None files why v f h = tt
 completes settings (Some s) None why v f h = tt
 completes settings (Some s) (Some fs) why v f h = subst (Follows why) (sym (h s fs refl refl)) f
@@ -114,24 +113,21 @@ images_as files runs r fs h e = subst (λ o. WhereTold o (λ x. images_of x runs
 complete_free : (settings : Settings) (script : Option (List ℕ)) (files : Option (List NamedFile)) (why : Why) → ((v : Verdict) → Follows why v) → IsComplete settings script files why
 complete_free settings None files why h = tt
 complete_free settings (Some s) None why h = tt
-complete_free settings (Some s) (Some fs) why h = h (verdict_of settings s fs)
+complete_free settings (Some s) (Some fs) why h = h (verdict_of settings.nodes s fs)
 
 module _ (settings : Settings) (script : Option (List ℕ)) (files : Option (List NamedFile)) where
   verdict_at : (orders : List ScriptLine) (r : Result (List UserState) Refusal) (s : List ℕ) (fs : List NamedFile) → IsScriptOf settings.nodes script orders → WhereTold files (λ x. images_of x (runs_of orders) ≡ r) → script ≡ Some s → files ≡ Some fs
-      → verdict_of settings s fs ≡ verdict_on_users settings orders r
-  verdict_at orders r s fs o i e f = ap (verdict_on_script settings fs) (read_as settings.nodes script orders s o e) ∙ ap (verdict_on_users settings orders) (images_as files (runs_of orders) r fs i f)
+      → verdict_of settings.nodes s fs ≡ verdict_on_users r
+  verdict_at orders r s fs o i e f = ap (verdict_on_script fs) (read_as settings.nodes script orders s o e) ∙ ap verdict_on_users (images_as files (runs_of orders) r fs i f)
 
-  complete_run : (orders : List ScriptLine) (users : List UserState) (why : Why) → Follows why Runs → IsScriptOf settings.nodes script orders → AreImagesOf files (runs_of orders) users → is_built settings ≡ true → IsComplete settings script files why
-  complete_run orders users why f o i b = completes settings script files why Runs f (λ s fs e g. verdict_at orders (Ok users) s fs o i.named e g ∙ ap (λ x. cond x Runs IsNotBuilt) b)
-
-  complete_unbuilt : (orders : List ScriptLine) (users : List UserState) → IsScriptOf settings.nodes script orders → AreImagesOf files (runs_of orders) users → is_built settings ≡ false → IsComplete settings script files NotBuilt
-  complete_unbuilt orders users o i b = completes settings script files NotBuilt IsNotBuilt refl (λ s fs e g. verdict_at orders (Ok users) s fs o i.named e g ∙ ap (λ x. cond x Runs IsNotBuilt) b)
+  complete_run : (orders : List ScriptLine) (users : List UserState) (why : Why) → Follows why Runs → IsScriptOf settings.nodes script orders → AreImagesOf files (runs_of orders) users → IsComplete settings script files why
+  complete_run orders users why f o i = completes settings script files why Runs f (λ s fs e g. verdict_at orders (Ok users) s fs o i.named e g)
 
   complete_image : (orders : List ScriptLine) (line kind : ℕ) → IsScriptOf settings.nodes script orders → IsRefused files (runs_of orders) line kind → IsComplete settings script files (BadImage line kind)
   complete_image orders line kind o r = completes settings script files (BadImage line kind) (HasBadImage line kind) refl (λ s fs e g. verdict_at orders (Err (record { line = line; kind = kind })) s fs o r.named e g)
 
   complete_fault : (line kind : ℕ) → IsFaultOf settings.nodes script line kind → IsComplete settings script files (BadScript line kind)
-  complete_fault line kind r = completes settings script files (BadScript line kind) (IsFaulty line kind) refl (λ s fs e g. ap (verdict_on_script settings fs) (faulty_as settings.nodes script line kind s r e))
+  complete_fault line kind r = completes settings script files (BadScript line kind) (IsFaulty line kind) refl (λ s fs e g. ap (verdict_on_script fs) (faulty_as settings.nodes script line kind s r e))
 
 -- ---- mode `run`
 
@@ -273,7 +269,7 @@ module _ (policy : Policy) (chance : Stream) {S I O : Type 0} (settings : Settin
   none_tells orders WriteFault o r = absurd r
   none_tells orders NoMemory o r = record { causes = tt; printed = part_told orders o r }
   none_tells orders (JournalFull node) o r = absurd r
-  none_tells orders NotBuilt o r = record { causes = record { orders = orders; users = r.0.users; accepted = record { orders_are = o; users_are = r.0.users_are }; unbuilt = r.0.unbuilt }; printed = r.1 }
+  none_tells orders NotBuilt o r = absurd r
   none_tells orders (BadSource line kind) o r = absurd r
 
   none_complete : (orders : List ScriptLine) (why : Why) → IsScriptOf settings.nodes (told script) orders → RefusesOrders policy chance settings orders images sink why → IsComplete settings (told script) (told images) why
@@ -286,7 +282,7 @@ module _ (policy : Policy) (chance : Stream) {S I O : Type 0} (settings : Settin
   none_complete orders WriteFault o r = absurd r
   none_complete orders NoMemory o r = complete_free settings (told script) (told images) NoMemory (λ v. tt)
   none_complete orders (JournalFull node) o r = absurd r
-  none_complete orders NotBuilt o r = complete_unbuilt settings (told script) (told images) orders r.0.users o r.0.users_are r.0.unbuilt
+  none_complete orders NotBuilt o r = absurd r
   none_complete orders (BadSource line kind) o r = absurd r
 
   orders_tell : (orders : List ScriptLine) (o : Option Run) (why : Why) → IsScriptOf settings.nodes (told script) orders → TellsOrders policy chance settings orders images sink o why → Tells policy chance settings script images sink o why
@@ -295,7 +291,7 @@ module _ (policy : Policy) (chance : Stream) {S I O : Type 0} (settings : Settin
 
   orders_complete : (orders : List ScriptLine) (o : Option Run) (why : Why) → IsScriptOf settings.nodes (told script) orders → TellsOrders policy chance settings orders images sink o why → IsComplete settings (told script) (told images) why
   orders_complete orders (Some run) why s t =
-      complete_run settings (told script) (told images) orders t.0.users why (reported_follows sink (report_writes run orders settings.events) run why t.1) s t.0.users_are t.0.is.built
+      complete_run settings (told script) (told images) orders t.0.users why (reported_follows sink (report_writes run orders settings.events) run why t.1) s t.0.users_are
   orders_complete orders None why s t = none_complete orders why s t
 
   pub script_told : (orders : List ScriptLine) (ended : Ended) → IsScriptOf settings.nodes (told script) orders → Reads (SCRIPT_BYTES + 1) (told script) (tells_now script) false → TellsOrders policy chance settings orders images sink ended.run ended.why

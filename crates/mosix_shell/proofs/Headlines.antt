@@ -13,7 +13,7 @@ use Rattle.node_core.specs.declared.node.Node.{Node}
 use Rattle.node_core.specs.Locals.{local}
 use Rattle.cluster_run.specs.declared.over.OverWhy.{OverWhy}
 use Rattle.cluster_run.specs.declared.over.OverWhy.TheVariants as why
-use Rattle.cluster_run.specs.Over.{AreWoven, IsOver, Ran, RanAs}
+use Rattle.cluster_run.specs.Over.{AreWoven, IsOver, Ran}
 use Rattle.shell_text.specs.declared.run.Last.{Last}
 use Rattle.shell_text.specs.declared.run.Last.TheVariants as last
 use Rattle.shell_text.specs.declared.run.Run.{Run}
@@ -69,7 +69,7 @@ module _ (policy : Policy) (plan : Plan) (room : ℕ) (nodes : List Node) (run :
       ended = subst (λ (x : Last). EndsAs policy plan room x (history policy plan run) over.ending.machine over.world) (sym tells.last_is) ends;
     }
 
-  by_why : (answer : OverWhy) (l : Last) → last_of answer ≡ Some l → IsOver policy plan room answer nodes (reverse run.events) → TellsEnd nodes l run → AreWoven plan nodes (reverse run.events)
+  by_why : (answer : OverWhy) (l : Last) → last_of answer ≡ l → IsOver policy plan room answer nodes (reverse run.events) → TellsEnd nodes l run → AreWoven plan nodes (reverse run.events)
       → ((k : ℕ) (n : Node) → slice_get nodes k ≡ Some n → length n.journal.events ≤ room) → Headline policy plan room run
   by_why why.Done last.Done e over tells woven most =
       so_far why.Done over last.Done tells woven most (done_states policy plan tells.home (history policy plan run) over.world (home_at why.Done over last.Done tells) over.ending (kernel_is why.Done over last.Done tells) over.over.1) over.over
@@ -85,9 +85,8 @@ module _ (policy : Policy) (plan : Plan) (room : ℕ) (nodes : List Node) (run :
   by_why why.Stuck (last.Full k) e over tells woven most = absurd cc
   by_why (why.Full n) last.Done e over tells woven most = absurd cc
   by_why (why.Full n) last.Stuck e over tells woven most = absurd cc
-  by_why why.NotBuilt l e over tells woven most = absurd cc
 
-  pub headline : (answer : OverWhy) (l : Last) → last_of answer ≡ Some l → Ran policy plan room answer nodes → TellsEnd nodes l run → ((k : ℕ) (n : Node) → slice_get nodes k ≡ Some n → length n.journal.events ≤ room)
+  pub headline : (answer : OverWhy) (l : Last) → last_of answer ≡ l → Ran policy plan room answer nodes → TellsEnd nodes l run → ((k : ℕ) (n : Node) → slice_get nodes k ≡ Some n → length n.journal.events ≤ room)
       → Headline policy plan room run
   headline answer l e ran tells most =
       let woven = are_woven plan nodes run.events (tells.rising ran.journals) (tells.own ran.journals) in
@@ -99,21 +98,9 @@ first_is : (xs : List Node) → 1 ≤ length xs → ((k : ℕ) (n : Node) → sl
 first_is [] more ids = absurd (omega (arith, more))
 first_is (x ∷ xs) more ids = record { home = x; first = refl; is_home = ids 0 x refl }
 
-pub not_built : (answer : OverWhy) → last_of answer ≡ None → answer ≡ why.NotBuilt
-not_built why.Done e = absurd cc
-not_built why.Stuck e = absurd cc
-not_built (why.Full n) e = absurd cc
-not_built why.NotBuilt e = refl
-
 module _ (policy : Policy) (plan : Plan) (room : ℕ) (nodes : List Node) where
-  ran_of : (answer : OverWhy) (l : Last) → last_of answer ≡ Some l → RanAs policy plan room answer nodes → Ran policy plan room answer nodes
-  ran_of why.Done l e ran = ran
-  ran_of why.Stuck l e ran = ran
-  ran_of (why.Full n) l e ran = ran
-  ran_of why.NotBuilt l e ran = absurd cc
+  pub has_home : (answer : OverWhy) (l : Last) → last_of answer ≡ l → Ran policy plan room answer nodes → 1 ≤ length nodes → HasHome nodes
+  has_home answer l e ran more = first_is nodes more (λ k n at. (ran.places k n at).0)
 
-  pub has_home : (answer : OverWhy) (l : Last) → last_of answer ≡ Some l → RanAs policy plan room answer nodes → 1 ≤ length nodes → HasHome nodes
-  has_home answer l e ran more = first_is nodes more (λ k n at. ((ran_of answer l e ran).places k n at).0)
-
-  pub told_headline : (answer : OverWhy) (l : Last) (run : Run) → last_of answer ≡ Some l → RanAs policy plan room answer nodes → TellsEnd nodes l run → Headline policy plan room run
-  told_headline answer l run e ran tells = let r = ran_of answer l e ran in headline policy plan room nodes run answer l e r tells (λ k n at. (r.places k n at).1)
+  pub told_headline : (answer : OverWhy) (l : Last) (run : Run) → last_of answer ≡ l → Ran policy plan room answer nodes → TellsEnd nodes l run → Headline policy plan room run
+  told_headline answer l run e ran tells = headline policy plan room nodes run answer l e ran tells (λ k n at. (ran.places k n at).1)

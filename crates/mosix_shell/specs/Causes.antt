@@ -10,7 +10,6 @@ use Rattle.shell_text.specs.declared.fault.ScriptError.TheVariants as fault
 use Rattle.mosix_shell.specs.Told.{Seen, WhereTold, told, HasRisen}
 use Rattle.mosix_shell.specs.Orders.{IsScriptOf, IsFaultOf}
 use Rattle.mosix_shell.specs.Images.{Refusal, runs_of, images_of, AreImagesOf, IsRefused}
-use Rattle.mosix_shell.specs.Stage.{is_built}
 use Rattle.mosix_shell.specs.declared.why.Why.{Why}
 use Rattle.mosix_shell.specs.declared.why.Why.TheVariants.{Done, Stuck, BadWords, BadScript, BadImage, ReadFault, WriteFault, NoMemory, JournalFull, NotBuilt, BadSource}
 
@@ -27,17 +26,10 @@ pub record HasRefused (settings : Settings) (script : Option (List ℕ)) (files 
   pub orders_are : IsScriptOf settings.nodes script orders
   pub refused : IsRefused files (runs_of orders) line kind
 
--- what is accepted is of a form that is not built
-pub record IsUnbuilt (settings : Settings) (script : Option (List ℕ)) (files : Option (List NamedFile)) : Type 0 where
-  pub orders : List ScriptLine
-  pub users : List UserState
-  pub accepted : AreAccepted settings script files orders users
-  pub unbuilt : is_built settings ≡ false
-
 abbrev pub CauseOf : {S I : Type 0} → Settings → Seen S (List ℕ) → Seen I (List NamedFile) → Why → Type 0
 CauseOf settings script images (BadScript line kind) = IsFaultOf settings.nodes (told script) line kind
 CauseOf settings script images (BadImage line kind) = HasRefused settings (told script) (told images) line kind
-CauseOf settings script images NotBuilt = IsUnbuilt settings (told script) (told images)
+CauseOf settings script images NotBuilt = ⊥
 CauseOf settings script images ReadFault = HasRisen script ⊎ HasRisen images
 CauseOf settings script images NoMemory = Unit {0}
 CauseOf settings script images BadWords = ⊥
@@ -54,28 +46,29 @@ pub data Verdict : Type 0 where
   IsFaulty : ℕ → ℕ → Verdict
   -- the first line whose image is refused, and the kind of the refusal
   HasBadImage : ℕ → ℕ → Verdict
-  -- all is accepted, but a run of it is not built
-  IsNotBuilt : Verdict
   -- a run is made
   Runs : Verdict
+  -- no text comes to this
+  IsUnread : Verdict
 
-abbrev pub verdict_on_users : Settings → List ScriptLine → Result (List UserState) Refusal → Verdict
-verdict_on_users settings orders (Err refusal) = HasBadImage refusal.line refusal.kind
-verdict_on_users settings orders (Ok users) = if is_built settings then Runs else IsNotBuilt
+abbrev pub verdict_on_users : Result (List UserState) Refusal → Verdict
+verdict_on_users (Err refusal) = HasBadImage refusal.line refusal.kind
+verdict_on_users (Ok users) = Runs
 
-abbrev pub verdict_on_script : Settings → List NamedFile → Result (List ScriptLine) ScriptError → Verdict
-verdict_on_script settings files (Err (fault.Fault line kind)) = IsFaulty line kind
-verdict_on_script settings files (Err fault.NoMemory) = IsNotBuilt
-verdict_on_script settings files (Ok orders) = verdict_on_users settings orders (images_of files (runs_of orders))
+abbrev pub verdict_on_script : List NamedFile → Result (List ScriptLine) ScriptError → Verdict
+verdict_on_script files (Err (fault.Fault line kind)) = IsFaulty line kind
+verdict_on_script files (Err fault.NoMemory) = IsUnread
+verdict_on_script files (Ok orders) = verdict_on_users (images_of files (runs_of orders))
 
-abbrev pub verdict_of : Settings → List ℕ → List NamedFile → Verdict
-verdict_of settings text files = verdict_on_script settings files (script_of settings.nodes text)
+-- for a cluster of so many nodes
+abbrev pub verdict_of : ℕ → List ℕ → List NamedFile → Verdict
+verdict_of nodes text files = verdict_on_script files (script_of nodes text)
 
 -- an answer is that of the verdict, unless the outside failed or memory was wanting
 abbrev pub Follows : Why → Verdict → Type 0
 Follows (BadScript line kind) v = v ≡ IsFaulty line kind
 Follows (BadImage line kind) v = v ≡ HasBadImage line kind
-Follows NotBuilt v = v ≡ IsNotBuilt
+Follows NotBuilt v = ⊥
 Follows Done v = v ≡ Runs
 Follows Stuck v = v ≡ Runs
 Follows (JournalFull node) v = v ≡ Runs
@@ -86,4 +79,4 @@ Follows BadWords v = ⊥
 Follows (BadSource line kind) v = ⊥
 
 abbrev pub IsComplete : Settings → Option (List ℕ) → Option (List NamedFile) → Why → Type 0
-IsComplete settings script files why = WhereTold script (λ s. WhereTold files (λ fs. Follows why (verdict_of settings s fs)))
+IsComplete settings script files why = WhereTold script (λ s. WhereTold files (λ fs. Follows why (verdict_of settings.nodes s fs)))

@@ -12,30 +12,24 @@ use Rattle.mosix_shell.specs.Told.{Seen, told, HasRisen, IsUntouched}
 use Rattle.mosix_shell.specs.Why.{line_of}
 use Rattle.mosix_shell.specs.Writing.{WritesSome, WritesLine}
 use Rattle.mosix_shell.specs.Images.{runs_of, AreImagesOf, IsRefused}
-use Rattle.mosix_shell.specs.Stage.{is_built, IsRun}
+use Rattle.mosix_shell.specs.Stage.{IsRun}
 use Rattle.mosix_shell.specs.Answers.{IsReported}
 use Rattle.mosix_shell.specs.declared.why.Why.{Why}
 use Rattle.mosix_shell.specs.declared.why.Why.TheVariants.{Done, Stuck, BadWords, BadScript, BadImage, ReadFault, WriteFault, NoMemory, JournalFull, NotBuilt, BadSource}
 
--- all images are had, but a run of them is not built
-pub record IsUnbuiltFrom (settings : Settings) (files : Option (List NamedFile)) (orders : List ScriptLine) : Type 0 where
-  pub users : List UserState
-  pub users_are : AreImagesOf files (runs_of orders) users
-  pub unbuilt : is_built settings ≡ false
-
 -- why there is no run of orders
-abbrev pub IsUnrun : Settings → Option (List NamedFile) → List ScriptLine → Why → Type 0
-IsUnrun settings files orders (BadImage line kind) = IsRefused files (runs_of orders) line kind
-IsUnrun settings files orders NotBuilt = IsUnbuiltFrom settings files orders
-IsUnrun settings files orders ReadFault = Unit {0}
-IsUnrun settings files orders NoMemory = Unit {0}
-IsUnrun settings files orders BadWords = ⊥
-IsUnrun settings files orders (BadScript line kind) = ⊥
-IsUnrun settings files orders (BadSource line kind) = ⊥
-IsUnrun settings files orders Done = ⊥
-IsUnrun settings files orders Stuck = ⊥
-IsUnrun settings files orders WriteFault = ⊥
-IsUnrun settings files orders (JournalFull node) = ⊥
+abbrev pub IsUnrun : Option (List NamedFile) → List ScriptLine → Why → Type 0
+IsUnrun files orders (BadImage line kind) = IsRefused files (runs_of orders) line kind
+IsUnrun files orders NotBuilt = ⊥
+IsUnrun files orders ReadFault = Unit {0}
+IsUnrun files orders NoMemory = Unit {0}
+IsUnrun files orders BadWords = ⊥
+IsUnrun files orders (BadScript line kind) = ⊥
+IsUnrun files orders (BadSource line kind) = ⊥
+IsUnrun files orders Done = ⊥
+IsUnrun files orders Stuck = ⊥
+IsUnrun files orders WriteFault = ⊥
+IsUnrun files orders (JournalFull node) = ⊥
 
 -- a run is told with its report; where memory was wanting, a front of that was written
 abbrev pub IsTold : {O : Type 0} → Seen O (List ℕ) → List (List ℕ) → Run → Option Run → Why → Type 0
@@ -59,7 +53,7 @@ module _ (policy : Policy) (chance : Stream) where
   -- an answer without a run, and what is written of it
   abbrev pub RefusesOrders : {I O : Type 0} → Settings → List ScriptLine → Seen I (List NamedFile) → Seen O (List ℕ) → Why → Type 0
   RefusesOrders settings orders images sink (BadImage line kind) = IsRefused (told images) (runs_of orders) line kind × WritesLine sink (line_of (BadImage line kind))
-  RefusesOrders settings orders images sink NotBuilt = IsUnbuiltFrom settings (told images) orders × WritesLine sink (line_of NotBuilt)
+  RefusesOrders settings orders images sink NotBuilt = ⊥
   RefusesOrders settings orders images sink ReadFault = HasRisen images × WritesLine sink (line_of ReadFault)
   RefusesOrders settings orders images sink NoMemory = IsUntouched sink ⊎ IsPartOf settings orders images sink
   RefusesOrders settings orders images sink BadWords = ⊥

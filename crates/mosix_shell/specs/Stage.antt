@@ -58,17 +58,12 @@ pub record BeginsSome (nodes : List Node) : Type 0 where
   pub begins : Begins plan room nodes
 
 -- how a run ended, by why it is over
-abbrev pub last_of : OverWhy → Option Last
-last_of why.Done = Some last.Done
-last_of why.Stuck = Some last.Stuck
-last_of (why.Full node) = Some (last.Full node)
-last_of why.NotBuilt = None
+abbrev pub last_of : OverWhy → Last
+last_of why.Done = last.Done
+last_of why.Stuck = last.Stuck
+last_of (why.Full node) = last.Full node
 
 -- ---- a run
-
--- so far of one node
-abbrev pub is_built : Settings → Bool
-is_built settings = settings.nodes == 1
 
 abbrev pub plan_of : Stream → Settings → List ScriptLine → List UserState → Plan
 plan_of chance settings orders users = record {
@@ -82,5 +77,4 @@ plan_of chance settings orders users = record {
 
 module _ (policy : Policy) (chance : Stream) where
   pub record IsRun (settings : Settings) (orders : List ScriptLine) (users : List UserState) (run : Run) : Type 0 where
-    pub built : is_built settings ≡ true
     pub headline : Headline policy (plan_of chance settings orders users) settings.journal run

@@ -15,7 +15,7 @@ ghost use Rattle.mosix_shell.specs.Parts.{IsRunFrom, IsUnrun, IsTold, TellsOrder
 use crate::assembling::assemble_source;
 use crate::images::load_users;
 use crate::orders::read_orders;
-use crate::stage::{Unrun, run_users};
+use crate::stage::run_users;
 use crate::why::{Why, line_of, status_of, why_of_last};
 use call_table::Words;
 use mosix_words::{Mode, Settings, WordsError, mode_of};
@@ -78,7 +78,7 @@ fn run_of<I: Images, R: Rng, P: Chooser>(
     requires range { IsInRange settings.now }
     requires script { IsScript settings.now.nodes orders.now }
     ensures run { IfOk result (IsRunFrom (given_by (P.answers policy.now)) (R.stream rng.old) settings.now (I.files images.old) orders.now) }
-    ensures none { IfErr result (IsUnrun settings.now (I.files images.old) orders.now) }
+    ensures none { IfErr result (IsUnrun (I.files images.old) orders.now) }
     ensures fault { result ≡ Err Why.ReadFault → Rose (I.faults images.old) (I.faults images.new) }
 {
     let users = match load_users(alloc, images, orders.as_slice()) {
@@ -87,8 +87,7 @@ fn run_of<I: Images, R: Rng, P: Chooser>(
     };
     match run_users(alloc, settings, orders, users, rng, policy) {
         Ok(run) => Ok(run),
-        Err(Unrun::NotBuilt) => Err(Why::NotBuilt),
-        Err(Unrun::NoMemory) => Err(Why::NoMemory),
+        Err(_) => Err(Why::NoMemory),
     }
 }
 

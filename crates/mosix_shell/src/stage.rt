@@ -1,10 +1,10 @@
-// The run of a script by the processes of its `run` lines. So far a cluster has one node: another is not built.
-ghost use Rattle.std.specs.Prelude.{◌≡◌, ◌≤◌, ℕ, None, Err, IfOk, IfSome, false, length};
+// The run of a script by the processes of its `run` lines.
+ghost use Rattle.std.specs.Prelude.{◌≡◌, ◌≤◌, ℕ, IfOk, length};
 ghost use Rattle.node_machine.specs.Policy.{given_by};
 ghost use Rattle.node_machine.specs.Plan.{Plan as run_plan, IsPlan};
 ghost use Rattle.cluster_run.specs.Over.{Begins};
 ghost use Rattle.mosix_shell.specs.Headline.{Headline};
-ghost use Rattle.mosix_shell.specs.Stage.{is_built, shape_of, seeds_of, first_nodes, plan_of, last_of, BeginsSome, IsRun};
+ghost use Rattle.mosix_shell.specs.Stage.{shape_of, seeds_of, first_nodes, plan_of, last_of, BeginsSome, IsRun};
 ghost use Rattle.mosix_shell.specs.Ranges.{IsInRange};
 
 use crate::chance::seeds_of;
@@ -21,19 +21,6 @@ use rand_core::Rng;
 use shell_text::{Last, Run};
 use std::alloc::Global;
 use user_ctx::Users;
-
-/// Why there is no run.
-#[derive(Clone, Copy, Debug, PartialEq, Eq)]
-pub enum Unrun {
-    NotBuilt,
-    NoMemory,
-}
-
-fn is_built(settings: &Settings) -> bool
-    ensures { result ≡ is_built settings.now }
-{
-    settings.nodes == 1
-}
 
 /// The shape of the cluster, with the seed of one node.
 fn shape_of(settings: &Settings, word: u64) -> Shape
@@ -70,15 +57,14 @@ fn first_nodes(
     Ok(nodes)
 }
 
-/// How a run ended. None exactly where a turn was not built.
-fn last_of(why: OverWhy) -> Option<Last>
+/// How a run ended.
+fn last_of(why: OverWhy) -> Last
     ensures { result ≡ last_of why }
 {
     match why {
-        OverWhy::Done => Some(Last::Done),
-        OverWhy::Stuck => Some(Last::Stuck),
-        OverWhy::Full { node } => Some(Last::Full(node)),
-        OverWhy::NotBuilt => None,
+        OverWhy::Done => Last::Done,
+        OverWhy::Stuck => Last::Stuck,
+        OverWhy::Full { node } => Last::Full(node),
     }
 }
 
@@ -100,30 +86,27 @@ fn staged<R: Rng>(
     Ok(nodes)
 }
 
-/// The run of nodes that have done nothing, to what they tell at its end. None where a turn was not built.
+/// The run of nodes that have done nothing, to what they tell at its end.
 fn played<P: Chooser>(
     alloc: Global,
     settings: &Settings,
     nodes: Nodes,
     policy: &Policy<P>,
-) -> Result<Option<Run>, NoMemory>
+) -> Result<Run, NoMemory>
     requires range { IsInRange settings.now }
     requires count { length nodes ≡ settings.now.nodes }
     requires begins { BeginsSome nodes }
-    ensures whole { IfOk result (λ whole. IfSome whole (λ run. (plan : run_plan) (room : ℕ) → Begins plan room nodes → Headline (given_by (P.answers policy.now)) plan room run)) }
-    ensures built { IfOk result (λ whole. whole ≡ None → settings.now.nodes ≡ 1 → ⊥) }
+    ensures { IfOk result (λ run. (plan : run_plan) (room : ℕ) → Begins plan room nodes → Headline (given_by (P.answers policy.now)) plan room run) }
 {
     policy.is_fitting();
     let carriers = ring_carriers(alloc, settings.nodes)?;
     let over = run_serial(alloc, nodes, carriers, policy)?;
-    let Some(last) = last_of(over.why) else {
-        return Ok(None);
-    };
+    let last = last_of(over.why);
     let told = told_by(alloc, last, over.nodes)?;
-    Ok(Some(told))
+    Ok(told)
 }
 
-/// A run of orders by the processes of their `run` lines. `NotBuilt` comes exactly where a run of them is not built.
+/// A run of orders by the processes of their `run` lines.
 pub fn run_users<R: Rng, P: Chooser>(
     alloc: Global,
     settings: &Settings,
@@ -131,22 +114,12 @@ pub fn run_users<R: Rng, P: Chooser>(
     users: Users,
     rng: &mut R,
     policy: &Policy<P>,
-) -> Result<Run, Unrun>
+) -> Result<Run, NoMemory>
     requires range { IsInRange settings.now }
     requires plan { IsPlan (plan_of (R.stream rng.old) settings.now orders.now users) }
-    ensures run { IfOk result (IsRun (given_by (P.answers policy.now)) (R.stream rng.old) settings.now orders.now users) }
-    ensures unbuilt { result ≡ Err Unrun.NotBuilt → is_built settings.now ≡ false }
+    ensures { IfOk result (IsRun (given_by (P.answers policy.now)) (R.stream rng.old) settings.now orders.now users) }
 {
-    if !is_built(settings) {
-        return Err(Unrun::NotBuilt);
-    }
-    let nodes = match staged(alloc, settings, orders.as_slice(), users, rng) {
-        Ok(nodes) => nodes,
-        Err(_) => return Err(Unrun::NoMemory),
-    };
-    match played(alloc, settings, nodes, policy) {
-        Ok(Some(whole)) => Ok(whole),
-        Ok(None) => Err(Unrun::NotBuilt),
-        Err(_) => Err(Unrun::NoMemory),
-    }
+    let nodes = staged(alloc, settings, orders.as_slice(), users, rng)?;
+    let whole = played(alloc, settings, nodes, policy)?;
+    Ok(whole)
 }
