@@ -1,4 +1,4 @@
-use Rattle.std.proofs.Common.{List, None, refl, sym, ap, ◌∙◌}
+use Rattle.std.proofs.Common.{List, sym, ap, ◌∙◌}
 use Rattle.std.proofs.lemmas.Bool.{eqb-true}
 use Rattle.node_event.specs.declared.script.ScriptLine.{ScriptLine}
 use Rattle.mosix_shell.specs.Stage.{plan_of, seeds_of, first_nodes}
