@@ -1,7 +1,7 @@
 -- What the parts of the top call come to is what each mode promises.
-use Rattle.std.proofs.Common.{◌≡◌, ◌⊎◌, inl, inr, ℕ, ◌+◌, ◌≤◌, List, [], ◌∷◌, refl, ap, ◌∙◌, sym, subst, arith, Option, Some, None, Result, Ok, Err, Bool, true, false, cond, is_some}
+use Rattle.std.proofs.Common.{◌≡◌, ◌⊎◌, inl, inr, ℕ, ◌+◌, List, refl, ap, ◌∙◌, sym, subst, Option, Some, None, Result, Ok, Err, true, false, cond, is_some}
 use Rattle.call_table.specs.declared.limit.TheConstants.{SCRIPT_BYTES}
-use Rattle.outside.specs.Outside.{NamedFile, Rose}
+use Rattle.outside.specs.Outside.{NamedFile}
 use Rattle.outside.specs.declared.traits.Failed.{Failed}
 use Rattle.node_event.specs.declared.script.ScriptLine.{ScriptLine}
 use Rattle.rand_core.specs.Stream.{Stream}
@@ -10,10 +10,9 @@ use Rattle.mosix_words.specs.declared.settings.Mode.TheVariants as mode
 use Rattle.mosix_words.specs.declared.settings.Settings.{Settings}
 use Rattle.user_spec.specs.User.{UserState}
 use Rattle.node_machine.specs.Machine.{Policy}
-use Rattle.shell_text.specs.Printing.{IsCall, AreWritten, FailsAt, BreaksAt, StopsBy, Prints}
+use Rattle.shell_text.specs.Printing.{IsCall}
 use Rattle.shell_text.specs.Report.{report_writes}
 use Rattle.shell_text.specs.Script.{script_of}
-use Rattle.shell_text.specs.declared.fault.ScriptError.{ScriptError}
 use Rattle.shell_text.specs.declared.fault.ScriptError.TheVariants as fault
 use Rattle.shell_text.specs.declared.run.Last.{Last}
 use Rattle.shell_text.specs.declared.run.Last.TheVariants as last
@@ -24,8 +23,8 @@ use Rattle.mosix_shell.specs.Why.{line_of, has_run, why_of_last, cuts_short}
 use Rattle.mosix_shell.specs.Writing.{WritesAll, WritesFront, WritesSome, WritesLine}
 use Rattle.mosix_shell.specs.Orders.{IsScriptOf, IsFaultOf, IsUnread}
 use Rattle.mosix_shell.specs.Images.{Refusal, RunLine, runs_of, images_of, AreImagesOf, IsRefused}
-use Rattle.mosix_shell.specs.Causes.{AreAccepted, HasRefused, CauseOf, Verdict, IsFaulty, HasBadImage, Runs, verdict_on_users, verdict_on_script, verdict_of, Follows, IsComplete}
-use Rattle.mosix_shell.specs.Answers.{IsRunOf, IsReported, TellsRun, IsPartlyTold, WritesAnswer, TellsNone, Tells, RunAnswers, AsmAnswers, Refuses, AnswersIn, Answers}
+use Rattle.mosix_shell.specs.Causes.{CauseOf, Verdict, IsFaulty, HasBadImage, Runs, verdict_on_users, verdict_on_script, verdict_of, Follows, IsComplete}
+use Rattle.mosix_shell.specs.Answers.{IsRunOf, IsReported, IsPartlyTold, WritesAnswer, TellsNone, Tells, RunAnswers, Refuses, AnswersIn, Answers}
 use Rattle.mosix_shell.specs.Parts.{IsRunFrom, IsUnrun, IsTold, IsPartOf, RefusesOrders, TellsOrders}
 use Rattle.mosix_shell.specs.declared.mosix.Ended.{Ended}
 use Rattle.mosix_shell.specs.declared.why.Why.{Why}

@@ -1,5 +1,5 @@
 -- A fault of reading or writing raised a count.
-use Rattle.std.proofs.Common.{◌≡◌, ◌⊎◌, inl, inr, ℕ, ◌+◌, ◌-◌, ◌^◌, ◌≤◌, min, List, [], ◌∷◌, refl, ap, ◌∙◌, sym, subst, arith, Option, Some, None, Ok}
+use Rattle.std.proofs.Common.{◌≡◌, ◌⊎◌, inl, inr, ℕ, ◌+◌, ◌-◌, ◌^◌, ◌≤◌, min, List, [], ◌∷◌, ap, ◌∙◌, sym, subst, arith, Option, Some, None}
 use Rattle.std.proofs.Math.Nat.{min-le_left, min-le_right, le-min}
 use Rattle.outside.specs.Outside.{NamedFile, Rose}
 use Rattle.rand_core.specs.Stream.{Stream}
@@ -7,20 +7,19 @@ use Rattle.mosix_words.specs.declared.settings.Mode.{Mode}
 use Rattle.mosix_words.specs.declared.settings.Mode.TheVariants as mode
 use Rattle.mosix_words.specs.declared.settings.Settings.{Settings}
 use Rattle.node_machine.specs.Machine.{Policy}
-use Rattle.shell_text.specs.Printing.{AreWritten, FailsAt}
+use Rattle.shell_text.specs.Printing.{AreWritten}
 use Rattle.shell_text.specs.Report.{chunks_of, report_writes}
 use Rattle.shell_text.specs.declared.run.Last.{Last}
 use Rattle.shell_text.specs.declared.run.Last.TheVariants as last
 use Rattle.shell_text.specs.declared.run.Run.{Run}
-use Rattle.mosix_shell.specs.Told.{Seen, told, HasRisen}
+use Rattle.mosix_shell.specs.Told.{Seen, HasRisen}
 use Rattle.mosix_shell.specs.Why.{why_of_last}
 use Rattle.mosix_shell.specs.Writing.{WritesFront}
-use Rattle.mosix_shell.specs.Causes.{CauseOf}
 use Rattle.mosix_shell.specs.Assembling.{WritesFile}
-use Rattle.mosix_shell.specs.Answers.{IsReported, Tells, RunAnswers, AsmAnswers, Refuses, AnswersIn, Answers}
+use Rattle.mosix_shell.specs.Answers.{Tells, Refuses, AnswersIn, Answers}
 use Rattle.mosix_shell.specs.declared.mosix.Ended.{Ended}
 use Rattle.mosix_shell.specs.declared.why.Why.{Why}
-use Rattle.mosix_shell.specs.declared.why.Why.TheVariants.{Done, Stuck, BadWords, BadScript, BadImage, ReadFault, WriteFault, NoMemory, JournalFull, NotBuilt, BadSource}
+use Rattle.mosix_shell.specs.declared.why.Why.TheVariants.{Done, Stuck, BadWords, ReadFault, WriteFault, NoMemory, JournalFull, NotBuilt}
 
 -- ---- counts never fall while pieces are written
 

@@ -1,5 +1,5 @@
 -- What holds of each order that a line of a script can have holds of each order of the script; and the numbers of its lines rise.
-use Rattle.std.proofs.Common.{◌≡◌, ℕ, suc, zero, ◌+◌, ◌≤◌, ◌<◌, List, [], ◌∷◌, ◌++◌, length, drop, refl, subst, arith, Option, Some, None, Result, Ok, Err, Bool, true, false, cond, nat_lt}
+use Rattle.std.proofs.Common.{◌≡◌, ℕ, suc, zero, ◌+◌, ◌≤◌, ◌<◌, List, [], ◌∷◌, ◌++◌, length, refl, subst, arith, Option, Some, None, Result, Ok, Err, Bool, true, false, cond, nat_lt}
 use Rattle.std.specs.Prelude.{slice_get}
 use Rattle.std.specs.List.{list_all}
 use Rattle.std.specs.Str.Lines.{lines}
@@ -11,7 +11,7 @@ use Rattle.node_event.specs.declared.script.ScriptLine.{ScriptLine}
 use Rattle.shell_text.specs.Lexing.{is_text_byte, words_of, behind_word}
 use Rattle.shell_text.specs.Keywords.{keyword_named}
 use Rattle.shell_text.specs.Orders.{alone, made_by, with_one, then_one, with_two, order_of, order_by, order_named, is_comment, some_order, order_at, order_on, is_run_line, is_past, line_order}
-use Rattle.shell_text.specs.Script.{fresh, and_order, with_order, line_read, on_ok, read_lines, script_read, script_of}
+use Rattle.shell_text.specs.Script.{fresh, with_order, line_read, on_ok, read_lines, script_read, script_of}
 use Rattle.shell_text.specs.declared.fault.FaultKind.{FaultKind}
 use Rattle.shell_text.specs.declared.fault.FaultKind.TheVariants.{TooLong, NotText}
 use Rattle.shell_text.specs.declared.fault.ScriptError.{ScriptError}

@@ -1,11 +1,10 @@
 -- What a run tells of the nodes that come back from it is the headline.
-use Rattle.std.proofs.Common.{◌≡◌, ℕ, ◌≤◌, List, [], ◌∷◌, length, reverse, refl, sym, ap, ◌∙◌, subst, arith, Option, Some, None}
+use Rattle.std.proofs.Common.{◌≡◌, ℕ, ◌≤◌, List, [], ◌∷◌, length, reverse, refl, sym, ap, ◌∙◌, subst, arith, Some, None}
 use Rattle.std.specs.Prelude.{slice_get}
-use Rattle.call_table.specs.declared.process.PidState.{PidState}
 use Rattle.fs_memory.specs.Files.{named_files}
 use Rattle.kernel_spec.specs.Kernel.{KernelState, given}
 use Rattle.protocol.specs.Notes.{Local}
-use Rattle.run_laws.specs.Machine.{ReplyGiven, MachineState}
+use Rattle.run_laws.specs.Machine.{MachineState}
 use Rattle.run_laws.specs.Ends.{statuses_to}
 use Rattle.node_machine.specs.Plan.{Plan}
 use Rattle.node_machine.specs.Machine.{Policy, machine}

@@ -4,7 +4,7 @@ use Rattle.std.proofs.lemmas.Bool.Decides.{nat_tests}
 use Rattle.std.proofs.lemmas.List.{append-nil, drop_more, drop_all}
 use Rattle.std.specs.List.{list_any}
 use Rattle.call_table.specs.declared.limit.TheConstants.{IMAGE_BYTES}
-use Rattle.outside.specs.Outside.{NamedFile, file_named, Loaded, LoadedFrom, Misses}
+use Rattle.outside.specs.Outside.{NamedFile, file_named, Loaded, Misses}
 use Rattle.outside.specs.declared.traits.LoadFault.{LoadFault}
 use Rattle.outside.specs.declared.traits.LoadFault.TheVariants as fault
 use Rattle.node_event.specs.declared.script.Order.{Order}
@@ -14,7 +14,7 @@ use Rattle.user_spec.specs.User.{UserState}
 use Rattle.elf_load.specs.Image.{image_of}
 use Rattle.mosix_shell.specs.Told.{WhereTold}
 use Rattle.mosix_shell.specs.Orders.{FitsStack, FitStacks}
-use Rattle.mosix_shell.specs.Images.{RunLine, run_in, runs_of, name_of, image_in, image_named, Refusal, with_rest, with_image, behind, images_of, IsImageOf, AreSomeImages, AreImagesOf, HasLine, IsRefused, IsUnloaded, by_fault, IsKindOf, IsImageRefused, refusal_of, AddsImage, IsLineRefused, LoadsOn}
+use Rattle.mosix_shell.specs.Images.{RunLine, run_in, runs_of, name_of, image_in, image_named, Refusal, with_rest, with_image, behind, images_of, IsImageOf, AreSomeImages, AreImagesOf, IsUnloaded, by_fault, IsKindOf, IsImageRefused, refusal_of, AddsImage, IsLineRefused, LoadsOn}
 use Rattle.mosix_shell.specs.declared.images.Unloaded.{Unloaded}
 use Rattle.mosix_shell.specs.declared.images.Unloaded.TheVariants.{Refused, Failed, WantsMemory}
 use Rattle.mosix_shell.specs.declared.why.Why.{Why}

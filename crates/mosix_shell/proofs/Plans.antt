@@ -1,5 +1,5 @@
 -- A script that was read and the processes that were loaded for its `run` lines are a plan.
-use Rattle.std.proofs.Common.{◌≡◌, ℕ, zero, suc, ◌+◌, ◌*◌, ◌/◌, ◌≤◌, ◌<◌, List, [], ◌∷◌, ◌++◌, length, refl, ap, ◌∙◌, sym, subst, arith, Option, Some, None, Result, Ok, Err, Bool, true, false, cond, nat_lt}
+use Rattle.std.proofs.Common.{◌≡◌, ℕ, zero, suc, ◌*◌, ◌/◌, ◌≤◌, ◌<◌, List, [], ◌∷◌, length, refl, ap, ◌∙◌, sym, subst, arith, Option, Some, None, Result, Ok, Err, Bool, true, false, cond, nat_lt}
 use Rattle.std.specs.Prelude.{slice_get, slice_set, replicate}
 use Rattle.std.specs.Option.{option_or}
 use Rattle.std.specs.FinMap as map
@@ -10,10 +10,9 @@ use Rattle.call_table.specs.declared.limit.TheConstants.{PAGES, LINE_BYTES}
 use Rattle.node_event.specs.declared.script.Order.{Order}
 use Rattle.node_event.specs.declared.script.Order.TheVariants as order
 use Rattle.node_event.specs.declared.script.ScriptLine.{ScriptLine}
-use Rattle.page_set.specs.Pages.{PageMap}
 use Rattle.rand_core.specs.Stream.{Stream}
 use Rattle.user_spec.specs.User.{UserState}
-use Rattle.elf_load.specs.Image.{start_registers, start_pages, start_user, header_fault, segment_fault, headers_of, is_bad_entry, entry_of, page_fault, image_fault, image_or, image_of, table_start}
+use Rattle.elf_load.specs.Image.{start_pages, start_user, header_fault, segment_fault, headers_of, is_bad_entry, entry_of, page_fault, image_fault, image_or, table_start}
 use Rattle.mosix_words.specs.declared.settings.Settings.{Settings}
 use Rattle.protocol.specs.Deeds.{one_run}
 use Rattle.shell_text.specs.Lexing.{words_of}
@@ -29,7 +28,7 @@ use Rattle.node_machine.specs.Plan.{run_count, IsLoaded, IsPlan}
 use Rattle.mosix_shell.specs.Images.{RunLine, run_in, runs_of, AreSomeImages}
 use Rattle.mosix_shell.specs.Ranges.{IsInRange}
 use Rattle.mosix_shell.specs.Stage.{plan_of}
-use Rattle.mosix_shell.proofs.EachOrder.{OfOrder, of_alone, of_one, of_two, OfEach, each_at, of_each, lines_rise}
+use Rattle.mosix_shell.proofs.EachOrder.{OfOrder, of_alone, of_one, of_two, each_at, of_each, lines_rise}
 
 -- ---- a `move` names a node, and a `kill` a signal
 

@@ -1,11 +1,11 @@
 -- Words give values that are in their ranges.
-use Rattle.std.proofs.Common.{◌≡◌, ℕ, ◌≤◌, List, length, refl, sym, subst, arith, Option, Some, None, Bool, true, false, cond, nat_lt, nat_le, ◌==◌}
+use Rattle.std.proofs.Common.{◌≡◌, ℕ, ◌≤◌, List, length, refl, subst, arith, Option, Some, None, Bool, true, false, cond, nat_lt, nat_le, ◌==◌}
 use Rattle.std.specs.Prelude.{codes}
 use Rattle.std.specs.Str.Parse.{digits_value}
 use Rattle.std.proofs.lemmas.Bool.Decides.{nat_tests}
 use Rattle.clap.specs.Words.{Text, Row, first_of, fault_of, matches_of}
 use Rattle.mosix_words.specs.Command.{the_app}
-use Rattle.mosix_words.specs.Numbers.{is_number, at_most, at_least, number_in, number_or}
+use Rattle.mosix_words.specs.Numbers.{is_number, at_most, at_least, number_or}
 use Rattle.mosix_words.specs.Settings.{mode_in, seed_in, is_set, settings, settings_in, settings_of}
 use Rattle.mosix_words.specs.declared.settings.Mode.{Mode}
 use Rattle.mosix_words.specs.declared.settings.Settings.{Settings}

@@ -17,7 +17,7 @@ use Rattle.node_event.specs.declared.script.Order.{Order}
 use Rattle.node_event.specs.declared.script.Order.TheVariants as order
 use Rattle.node_event.specs.declared.script.ScriptLine.{ScriptLine}
 use Rattle.protocol.specs.Ops.{Ops}
-use Rattle.protocol.specs.Deeds.{Manner, Deed, Input, Text, Finish, Nothing, order_at, runs_before, feeds_before, run_deed, kill_deed, move_deed, other_deed, order_deed, command_deed, manner_of, born_of, served_deed, got_deed, told_deed, half_deed, deed_of, Told, Strange, all_noted}
+use Rattle.protocol.specs.Deeds.{Input, Text, Finish, Nothing, order_at, runs_before, feeds_before, run_deed, kill_deed, move_deed, other_deed, order_deed, command_deed, manner_of, served_deed, got_deed, told_deed, half_deed, deed_of, Told, Strange, all_noted}
 use Rattle.run_laws.specs.Machine.{ReplyGiven}
 use Rattle.run_laws.specs.Schedule.{told_so, told_by, told}
 use Rattle.run_laws.specs.ScriptLaw.{AtHome, ScriptLaw}

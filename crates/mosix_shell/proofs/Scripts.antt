@@ -1,27 +1,20 @@
 -- What a script's text comes to, and that the words of a line fit on a stack.
-use Rattle.std.proofs.Common.{◌≡◌, ℕ, ◌+◌, ◌*◌, ◌≤◌, ◌<◌, List, [], ◌∷◌, ◌++◌, length, drop, refl, ap, ◌∙◌, sym, subst, arith, inl, inr, Option, Some, None, Result, Ok, Err, Bool, true, false, cond, nat_lt}
-use Rattle.std.specs.List.{slice_split, onto_first, filter, list_all}
+use Rattle.std.proofs.Common.{◌≡◌, ℕ, ◌+◌, ◌*◌, ◌≤◌, ◌<◌, List, [], ◌∷◌, length, refl, ap, ◌∙◌, sym, arith, inl, inr, Option, Some, None, Ok, Err, Bool, true, false, cond, nat_lt}
+use Rattle.std.specs.List.{slice_split, onto_first, filter}
 use Rattle.std.specs.Str.Lines.{lines}
-use Rattle.std.proofs.lemmas.Bool.{cases_lt, cases_Bool}
+use Rattle.std.proofs.lemmas.Bool.{cases_lt}
 use Rattle.std.proofs.lemmas.Bool.Decides.{nat_tests}
-use Rattle.std.proofs.lemmas.List.{length-drop}
-use Rattle.call_table.specs.declared.limit.TheConstants.{SCRIPT_BYTES, LINE_BYTES, LINES, RUN_LINES}
-use Rattle.node_event.specs.declared.script.Order.{Order}
+use Rattle.call_table.specs.declared.limit.TheConstants.{SCRIPT_BYTES, LINE_BYTES}
 use Rattle.node_event.specs.declared.script.Order.TheVariants as order
 use Rattle.node_event.specs.declared.script.ScriptLine.{ScriptLine}
 use Rattle.elf_load.specs.Image.{start_size}
-use Rattle.shell_text.specs.Lexing.{is_blank, is_word, is_text_byte, words_of, past_blanks, behind_word}
-use Rattle.shell_text.specs.Keywords.{keyword_named}
+use Rattle.shell_text.specs.Lexing.{is_blank, is_word, words_of}
 use Rattle.shell_text.specs.Numbers.{pid_of, count_of, slots_of, node_of, signal_of}
-use Rattle.shell_text.specs.Orders.{alone, made_by, with_one, then_one, with_two, run_of, order_of, order_by, order_named, is_comment, some_order, order_at, order_on, is_run_line, is_past, line_order, fed}
-use Rattle.shell_text.specs.Script.{fresh, and_order, with_order, line_read, on_ok, read_lines, script_read, script_of}
-use Rattle.shell_text.specs.declared.fault.FaultKind.{FaultKind}
-use Rattle.shell_text.specs.declared.fault.FaultKind.TheVariants.{TooLong, NotText}
-use Rattle.shell_text.specs.declared.fault.ScriptError.{ScriptError}
+use Rattle.shell_text.specs.Orders.{run_of, order_of}
+use Rattle.shell_text.specs.Script.{fresh, read_lines, script_read, script_of}
 use Rattle.shell_text.specs.declared.fault.ScriptError.TheVariants as fault
 use Rattle.shell_text.specs.declared.keyword.Keyword.{Keyword}
 use Rattle.shell_text.specs.declared.keyword.Keyword.TheVariants.{Run, Kill, Move, Feed, Eof, Wait, After, Held, Slots}
-use Rattle.shell_text.specs.declared.script.Reader.{Reader}
 use Rattle.mosix_shell.specs.Reading.{IsReadPast}
 use Rattle.mosix_shell.specs.Orders.{IsScriptOf, IsFaultOf, FitsStack, FitStacks}
 use Rattle.mosix_shell.proofs.EachOrder.{OfOrder, of_alone, of_one, of_two, OfEach, of_each}

@@ -1,5 +1,5 @@
 -- The status that home tells of each process is the machine's.
-use Rattle.std.proofs.Common.{◌≡◌, ℕ, zero, suc, ◌+◌, Bool, true, false, cond, List, [], ◌∷◌, ◌++◌, refl, sym, ap, ◌∙◌, Option, Some, None}
+use Rattle.std.proofs.Common.{◌≡◌, ℕ, zero, suc, Bool, true, false, cond, List, [], ◌∷◌, ◌++◌, refl, sym, ap, ◌∙◌, Option, Some, None}
 use Rattle.std.specs.Option.{option_map}
 use Rattle.call_table.specs.declared.process.PidState.{PidState}
 use Rattle.call_table.specs.declared.process.PidState.TheVariants as states
@@ -9,10 +9,9 @@ use Rattle.deputy.specs.Rows.{held_at}
 use Rattle.deputy.specs.Moves.{held_number}
 use Rattle.protocol.specs.Ops.{Ops}
 use Rattle.protocol.specs.Deeds.{Noted}
-use Rattle.protocol.specs.Notes.{Called, Slot, Local}
+use Rattle.protocol.specs.Notes.{Called, Local}
 use Rattle.protocol.specs.Cluster.{World}
 use Rattle.protocol.specs.Rests.{AllRest}
-use Rattle.run_laws.specs.Machine.{MachineState}
 use Rattle.run_laws.specs.Ends.{end_state, live_state, blocked_number, status, status_cut, statuses_to, IsDone}
 use Rattle.run_laws.specs.Ending.{Ending}
 use Rattle.node_machine.specs.Plan.{Plan}

@@ -20,7 +20,7 @@ use Rattle.mosix_shell.specs.Causes.{AreAccepted, CauseOf, IsComplete}
 use Rattle.mosix_shell.specs.Assembling.{IsAssembly}
 use Rattle.mosix_shell.specs.declared.mosix.Ended.{Ended}
 use Rattle.mosix_shell.specs.declared.why.Why.{Why}
-use Rattle.mosix_shell.specs.declared.why.Why.TheVariants.{Done, Stuck, BadWords, BadScript, BadImage, ReadFault, WriteFault, NoMemory, JournalFull, NotBuilt, BadSource}
+use Rattle.mosix_shell.specs.declared.why.Why.TheVariants.{BadWords, ReadFault, WriteFault, NoMemory, NotBuilt}
 
 -- the answer says how the run ended and all of its report was written, or the report's writing failed
 abbrev pub IsReported : {O : Type 0} → Seen O (List ℕ) → List (List ℕ) → Run → Why → Type 0

@@ -1,5 +1,5 @@
 -- When each answer of mode `run` comes.
-use Rattle.std.specs.Prelude.{◌≡◌, ◌⊎◌, ℕ, Bool, true, false, List, Option, Some, None, Result, Ok, Err, if◌then◌else◌}
+use Rattle.std.specs.Prelude.{◌≡◌, ◌⊎◌, ℕ, false, List, Option, Result, Ok, Err, if◌then◌else◌}
 use Rattle.outside.specs.Outside.{NamedFile}
 use Rattle.node_event.specs.declared.script.ScriptLine.{ScriptLine}
 use Rattle.mosix_words.specs.declared.settings.Settings.{Settings}

@@ -1,6 +1,5 @@
 -- The orders of a script's text.
-use Rattle.std.specs.Prelude.{◌≡◌, ◌≤◌, ℕ, List, [], ◌∷◌, Option, Result, Ok, Err}
-use Rattle.call_table.specs.declared.limit.TheConstants.{SCRIPT_BYTES}
+use Rattle.std.specs.Prelude.{◌≡◌, ◌≤◌, ℕ, List, [], ◌∷◌, Option, Ok, Err}
 use Rattle.node_event.specs.declared.script.Order.{Order}
 use Rattle.node_event.specs.declared.script.Order.TheVariants.{Run}
 use Rattle.node_event.specs.declared.script.ScriptLine.{ScriptLine}

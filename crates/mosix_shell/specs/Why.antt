@@ -1,5 +1,5 @@
 -- The answers of the top call: their statuses, their lines, and what kind each is.
-use Rattle.std.specs.Prelude.{◌≡◌, ℕ, ◌++◌, List, codes, Bool, true, false, Option, Some, None, Result, Ok, Err}
+use Rattle.std.specs.Prelude.{ℕ, ◌++◌, List, codes, Bool, true, false, Option, Some, None, Result, Ok, Err}
 use Rattle.std.specs.Fmt.{decimal}
 use Rattle.shell_text.specs.declared.run.Last.{Last}
 use Rattle.shell_text.specs.declared.run.Last.TheVariants as last
