@@ -1,5 +1,5 @@
 -- Letters to nodes with full journals are looked for.
-use Rattle.std.proofs.Common.{◌≡◌, ◌≢◌, ℕ, zero, suc, ◌+◌, ◌<◌, ◌≤◌, ◌==◌, ◌++◌, ◌⊎◌, inl, inr, Bool, true, false, cond, Option, Some, None, List, [], ◌∷◌, refl, sym, ap, ◌∙◌, subst, arith, length, length-append, slice_get, slice_set}
+use Rattle.std.proofs.Common.{◌≡◌, ◌≢◌, ℕ, zero, suc, ◌+◌, ◌<◌, ◌≤◌, ◌==◌, ◌++◌, ◌⊎◌, inl, inr, Bool, true, false, cond, is_some, Option, Some, None, List, [], ◌∷◌, refl, sym, ap, ◌∙◌, subst, arith, length, length-append, slice_get, slice_set}
 use Rattle.std.specs.Prelude.{option_to_list}
 use Rattle.std.proofs.lemmas.List.{append-nil}
 use Rattle.std.proofs.lemmas.Bool.Decides.{leb_tells}
@@ -18,6 +18,17 @@ use Rattle.cluster_run.specs.Filling.{IsFilled, TookAny, NoneComes, OneWaits, On
 use Rattle.cluster_run.proofs.Calming.{below, get_set, some_is, seat_same, seat_then, calm_none, calm_then, calm_set}
 use Rattle.cluster_run.proofs.Rounds.{if_none, step_none, step_then}
 use Rattle.cluster_run.proofs.Passing.{set_here, set_off, sides_then, sides_set, sides_steps, steps_calm}
+
+-- one seat more at which no letter to a node waits
+pub none_more_waits : {C : Type 0} (node n : ℕ) (xs : List (Seat Node C)) (s : Seat Node C) → slice_get xs n ≡ Some s → any_to node (waiting s) ≡ false → ((a : ℕ) (t : Seat Node C) → a < n → slice_get xs a ≡ Some t → any_to node (waiting t) ≡ false) → (a : ℕ) (t : Seat Node C) → a < n + 1 → slice_get xs a ≡ Some t → any_to node (waiting t) ≡ false
+none_more_waits {C} node n xs s is none before a t less e = go (leb_tells n a)
+  where
+    go : ((leb n a ≡ true) × (n ≤ a)) ⊎ ((leb n a ≡ false) × (a < n)) → any_to node (waiting t) ≡ false
+    go (inr x) = before a t x.1 e
+    go (inl x) =
+        let y = x.1 in
+        let same : n ≡ a = omega (arith, y, less) in
+        subst (λ (w : Seat Node C). any_to node (waiting w) ≡ false) (some_is s t (sym is ∙ (ap (slice_get xs) same ∙ e))) none
 
 module _ {C : Type 0} (puts gives : C → List Letter) (pair : C → C → Type 0) where
   -- where no letter came a look left a seat in calm
@@ -133,6 +144,11 @@ module _ {C : Type 0} (puts gives : C → List Letter) (pair : C → C → Type 
               all_given (towards gives u.side a) front.order.0 (towards puts v.side at) (knows known u.side a) front.order.1 (counted a u v less e g) zero_known,
               ap (λ (w : Seat Node C). any_to at (waiting w)) was.2.same ∙ none a was.0 less was.1,
             )
+
+    -- by what came
+    pub awaited_by : (came : Option Letter) → TookAny puts gives known pair nodes came s t → ((a : ℕ) (u : Seat Node C) → a < nodes → slice_get xs a ≡ Some u → any_to at (waiting u) ≡ false) → AwaitedAs puts gives pair (is_some came) nodes at xs (slice_set ys at t)
+    awaited_by None k none = awaited_not k none
+    awaited_by (Some l) k none = awaited_in l k
 
   -- ---- one node after another
 

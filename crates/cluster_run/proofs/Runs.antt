@@ -11,10 +11,11 @@ use Rattle.cluster_run.specs.declared.seat.Rest.{Rest}
 use Rattle.cluster_run.specs.declared.seat.Rest.TheVariants as rested
 use Rattle.cluster_run.specs.declared.over.OverWhy.{OverWhy}
 use Rattle.cluster_run.specs.declared.over.OverWhy.TheVariants as why
+use Rattle.cluster_run.specs.declared.pass.Passed.{Passed}
 use Rattle.cluster_run.specs.declared.pass.Passed.TheVariants as passed
 use Rattle.cluster_run.specs.Standing.{BothFront, Calm, AllMet}
 use Rattle.cluster_run.specs.Seats.{Step}
-use Rattle.cluster_run.specs.Passing.{AreWithin, SameSides, AllStep, AllReady, OneFull, StayReady, PassedAs, IsAtRest, AreStill, LookedAt, LookedAll, Stilled}
+use Rattle.cluster_run.specs.Passing.{AreWithin, SameSides, AllStep, AllReady, OneFull, StayReady, Passes, PassedAs, IsAtRest, AreStill, LookedAt, LookedAll, Stilled}
 use Rattle.cluster_run.specs.Filling.{FirstFound, FirstAwaited, AreAsked}
 use Rattle.cluster_run.specs.Over.{Ran, RanAs}
 use Rattle.cluster_run.specs.Running.{why_of, AreOver, AreFull, IsWhy}
@@ -72,6 +73,17 @@ module _ (policy : Policy) {C : Type 0} (puts gives : C → List Letter) (pair :
   ran_as plan room rested.Busy nodes r = r
   ran_as plan room rested.Full nodes r = r
   ran_as plan room rested.NotBuilt nodes r = r
+
+  pub passed_then : (nodes : ℕ) (how : Passed) (xs ys zs : List (Seat Node C)) → PassedAs policy puts gives pair nodes passed.Whole xs ys → PassedAs policy puts gives pair nodes how ys zs → PassedAs policy puts gives pair nodes how xs zs
+  passed_then nodes how xs ys zs a b = record { passes = by how b.passes; sides = sides_then pair xs ys zs a.sides b.sides }
+    where
+      by : (h : Passed) → Passes policy puts gives nodes h ys zs → Passes policy puts gives nodes h xs zs
+      by passed.Whole p = λ plan room r. p plan room (a.passes plan room r)
+      by (passed.Full at) p = (p.0, λ plan room r. p.1 plan room (a.passes plan room r))
+      by passed.NotBuilt p = tt
+
+  pub passed_still : (nodes : ℕ) (still : Bool) (xs ys zs : List (Seat Node C)) → PassedAs policy puts gives pair nodes passed.Whole xs ys → Stilled puts gives pair nodes still ys zs → PassedAs policy puts gives pair nodes passed.Whole xs zs
+  passed_still nodes still xs ys zs a k = record { passes = λ plan room r. stay_steps puts gives pair policy ys zs k.steps plan room (a.passes plan room r); sides = sides_then pair xs ys zs a.sides (sides_steps puts gives pair ys zs k.steps) }
 
   -- nothing was left to be done
   pub over_still : (nodes : ℕ) (result : OverWhy) (xs ys zs : List (Seat Node C)) → nodes ≡ length xs → PassedAs policy puts gives pair nodes passed.Whole xs ys → Stilled puts gives pair nodes true ys zs → IsWhy result zs → AreOver policy puts gives result xs zs

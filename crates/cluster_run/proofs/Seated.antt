@@ -77,6 +77,26 @@ linked_turned i j = go (i == j) refl
         let apart : i ≢ j = (λ e. let z : true ≡ false = sym (eq-eqb i j e) ∙ q in absurd cc) in
         ap (λ (b : Bool). not b || (i == 0)) (ne_eqb i j apart) ∙ sym (ap (λ (b : Bool). not b || (j == 0)) (ne_eqb j i (λ e. apart (sym e))))
 
+drop_next : {A : Type 0} (k : ℕ) (xs : List A) (y : A) (ys : List A) → drop k xs ≡ y ∷ ys → drop (suc k) xs ≡ ys
+drop_next zero [] y ys e = absurd cc
+drop_next zero (x ∷ xs) y ys e = cc
+drop_next (suc k) [] y ys e = absurd cc
+drop_next (suc k) (x ∷ xs) y ys e = drop_next k xs y ys e
+
+one_longer : (nodes : List Node) (n : Node) → length (nodes ++ (n ∷ [])) ≡ suc (length nodes)
+one_longer [] n = refl
+one_longer (m ∷ nodes) n = ap suc (one_longer nodes n)
+
+none_left : {A : Type 0} (xs : List A) → length xs ≡ 0 → xs ≡ []
+none_left [] e = refl
+none_left (x ∷ xs) e = absurd (omega (arith, e))
+
+drop_none : {A : Type 0} (k : ℕ) (xs : List A) → drop k xs ≡ [] → drop (suc k) xs ≡ []
+drop_none zero [] e = refl
+drop_none zero (x ∷ xs) e = absurd cc
+drop_none (suc k) [] e = refl
+drop_none (suc k) (x ∷ xs) e = drop_none k xs e
+
 module _ {C : Type 0} where
   carrier_has : (side : List (Towards C)) (j : ℕ) → has j (map (λ (t : Towards C). t.node) side) ≡ is_some (carrier_to side j)
   carrier_has [] j = refl
@@ -161,3 +181,16 @@ module _ {C : Type 0} where
   seats_same last [] n (d ∷ sides) e = absurd cc
   seats_same last (m ∷ nodes) n [] e = refl
   seats_same last (m ∷ nodes) n (d ∷ sides) e = ap (λ (w : List (Seat Node C)). seat_of last m d ∷ w) (seats_same last nodes n sides e)
+
+  -- the next side was taken off the end of the sides that are left
+  pub popped : (last : ℕ) (nodes : List Node) (n : Node) (sides : List (List (Towards C))) (new : List (List (Towards C))) (side : List (Towards C)) → reverse (drop (length nodes) sides) ≡ new ++ (side ∷ [])
+      → (seats_of last (nodes ++ (n ∷ [])) sides ≡ seats_of last nodes sides ++ (seat_of last n side ∷ [])) × (new ≡ reverse (drop (length (nodes ++ (n ∷ []))) sides))
+  popped last nodes n sides new side e =
+      let left : drop (length nodes) sides ≡ side ∷ reverse new = sym (reverse-reverse (drop (length nodes) sides)) ∙ (ap reverse e ∙ reverse-append new (side ∷ [])) in
+      (seats_more last nodes n sides side (reverse new) left, sym (reverse-reverse new) ∙ ap reverse (sym (drop_next (length nodes) sides side (reverse new) left) ∙ ap (λ (k : ℕ). drop k sides) (sym (one_longer nodes n))))
+
+  pub popped_none : (last : ℕ) (nodes : List Node) (n : Node) (sides old new : List (List (Towards C))) → old ≡ reverse (drop (length nodes) sides) → length old ≡ 0 → length new ≡ 0
+      → (seats_of last (nodes ++ (n ∷ [])) sides ≡ seats_of last nodes sides) × (new ≡ reverse (drop (length (nodes ++ (n ∷ []))) sides))
+  popped_none last nodes n sides old new is none now =
+      let left : drop (length nodes) sides ≡ [] = sym (reverse-reverse (drop (length nodes) sides)) ∙ ap reverse (sym is ∙ none_left old none) in
+      (seats_same last nodes n sides left, none_left new now ∙ ap reverse (sym (drop_none (length nodes) sides left) ∙ ap (λ (k : ℕ). drop k sides) (sym (one_longer nodes n))))

@@ -1,12 +1,16 @@
 // A run of a cluster: nodes at their seats, and the carriers by which their letters go.
 #![tactic(auto)]
 
+mod full;
 mod meeting;
 mod over;
 mod pass;
 mod round;
+mod run;
 mod seat;
+mod seating;
 mod seats;
+mod serial;
 mod side;
 mod still;
 
@@ -14,4 +18,5 @@ pub use meeting::{meet_self, meet_sides};
 pub use over::{Nodes, Over, OverWhy};
 pub use seat::{Rest, Seat};
 pub use seats::{meet_all, meet_row};
+pub use serial::run_serial;
 pub use side::{hand, look};
