@@ -1,5 +1,5 @@
 -- The serial runner, from the nodes and carriers that it was given to the nodes that come back.
-use Rattle.std.proofs.Common.{◌≡◌, ℕ, ◌<◌, ◌≤◌, Some, List, sym, ap, ◌∙◌, subst, arith, length, map, slice_get}
+use Rattle.std.proofs.Common.{◌≡◌, ℕ, zero, suc, ◌<◌, ◌≤◌, ◌++◌, Some, List, [], ◌∷◌, refl, sym, ap, ◌∙◌, subst, arith, length, map, slice_get, take}
 use Rattle.call_forward.specs.declared.letter.Letter.{Letter}
 use Rattle.node_links.specs.Sides.{InPairs, EachIs, IsFresh}
 use Rattle.node_links.specs.declared.side.Towards.{Towards}
@@ -16,6 +16,12 @@ use Rattle.cluster_run.specs.Running.{AreOver}
 use Rattle.cluster_run.specs.Seating.{seats_of, node_of}
 use Rattle.cluster_run.proofs.Seated.{seats_count, linked_seats, within_seats, ready_seats}
 use Rattle.cluster_run.proofs.Stilled.{seat_at}
+
+-- a list before another one
+pub take_front : {A : Type 0} (n : ℕ) (xs ys : List A) → length xs ≡ n → take n (xs ++ ys) ≡ xs
+take_front {A} n [] ys e = let none : n ≡ 0 = omega (arith, e) in subst (λ (k : ℕ). take k ys ≡ []) (sym none) refl
+take_front {A} zero (x ∷ xs) ys e = absurd (omega (arith, e))
+take_front {A} (suc n) (x ∷ xs) ys e = ap (λ (w : List A). x ∷ w) (take_front n xs ys (omega (arith, e)))
 
 module _ {C : Type 0} (pair : C → C → Type 0) (last : ℕ) (nodes : List Node) (carriers : List (List (Towards C))) (pairs : InPairs pair (length nodes) carriers) (seats : List (Seat Node C)) (is : seats ≡ seats_of last nodes carriers) where
   pub seated_linked : AreLinked pair seats

@@ -68,7 +68,12 @@ fn events(rt: &impl Abort, over: &Over<RingCarrier>) -> usize {
 #[test]
 fn hello_is_done(rt: HostRuntime) -> Result<(), Fail> {
     let alloc = rt.alloc();
-    let over = run_serial(alloc, nodes(alloc, 100)?, ring_carriers(alloc, 1)?, &never_policy())?;
+    let over = run_serial(
+        alloc,
+        nodes(alloc, 100)?,
+        ring_carriers(alloc, 1)?,
+        &never_policy(),
+    )?;
     assert_eq!(rt; over.why, OverWhy::Done);
     assert_eq!(rt; (events(&rt, &over), taken(&rt, &over)), (9, 4));
     Ok(())
@@ -78,7 +83,12 @@ fn hello_is_done(rt: HostRuntime) -> Result<(), Fail> {
 #[test]
 fn a_full_journal(rt: HostRuntime) -> Result<(), Fail> {
     let alloc = rt.alloc();
-    let over = run_serial(alloc, nodes(alloc, 5)?, ring_carriers(alloc, 1)?, &never_policy())?;
+    let over = run_serial(
+        alloc,
+        nodes(alloc, 5)?,
+        ring_carriers(alloc, 1)?,
+        &never_policy(),
+    )?;
     assert_eq!(rt; over.why, OverWhy::Full { node: 0 });
     assert_eq!(rt; events(&rt, &over), 5);
     Ok(())

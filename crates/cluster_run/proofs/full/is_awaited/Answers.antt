@@ -15,6 +15,6 @@ returns-then-waits g c = awaited_out g.C.Carrier.puts g.C.Carrier.gives g.C.Carr
 pub returns : goal.returns
 returns g c =
     let by = awaited_by g.C.Carrier.puts g.C.Carrier.gives g.C.Carrier.pair g.C.Carrier.known c.args.nodes c.args.node c.args.seats.now c.meet_row.new.seats (get_or c.meet_row.new.seats c.args.node c.index-seats-node-2.result) c.take_any.new.self (get_or c.args.seats.now c.args.node c.index-seats-node.result) (or_got c.args.seats.now c.args.node c.index-seats-node.result c.requires.within)
-        (c.is_full.ensures.0 c.if-not-is_full.false) (c.in_ok-_none._none, c.in_ok-_none.ensures.met) c.in_ok-_none.ensures.counted (or_got c.meet_row.new.seats c.args.node c.index-seats-node-2.result (let k = c.in_ok-_none.ensures.met.calm.count in omega (arith, k, c.requires.within)))
-        c.in_ok-came.came c.in_ok-came.ensures (c.one_waits-waits.ensures.none c.if-waits.false) in
+    (c.is_full.ensures.0 c.if-not-is_full.false) (c.in_ok-_none._none, c.in_ok-_none.ensures.met) c.in_ok-_none.ensures.counted (or_got c.meet_row.new.seats c.args.node c.index-seats-node-2.result (let k = c.in_ok-_none.ensures.met.calm.count in omega (arith, k, c.requires.within)))
+    c.in_ok-came.came c.in_ok-came.ensures (c.one_waits-waits.ensures.none c.if-waits.false) in
     subst (λ (b : Bool). AwaitedAs g.C.Carrier.puts g.C.Carrier.gives g.C.Carrier.pair b c.args.nodes c.args.node c.args.seats.now (slice_set c.meet_row.new.seats c.args.node c.take_any.new.self)) (sym c.is_some.ensures) by

@@ -1,6 +1,7 @@
-use Rattle.std.proofs.Common.{arith, ◌-◌, ◌∙◌}
+use Rattle.std.proofs.Common.{arith, ◌-◌, ◌∙◌, ap, map, length}
 use Rattle.node_machine.specs.Policy.{given_by}
-use Rattle.cluster_run.proofs.SerialRun.{seated_linked, seated_count, serial_ran}
+use Rattle.cluster_run.specs.Seating.{node_of}
+use Rattle.cluster_run.proofs.SerialRun.{take_front, seated_linked, seated_count, serial_ran}
 use Rattle.cluster_run.proofs.serial.run_serial.Goals as goal
 
 pub run_seats-requires-clause-nodes : goal.run_seats-requires-clause-nodes
@@ -11,4 +12,4 @@ run_seats-requires-clause-linked g c = seated_linked g.C.Carrier.pair _ c.args.n
 
 pub returns : goal.returns
 returns g c = λ plan room begins fit. serial_ran g.C.Carrier.pair _ c.args.nodes c.args.carriers c.requires.pairs c.deref_mut.result.now (c.deref_mut.ensures.value ∙ c.in_ok-seats.ensures) g.C.Carrier.puts g.C.Carrier.gives g.C.Carrier.total c.requires.fresh (given_by (g.P.Chooser.answers c.args.policy.now))
-    c.in_ok-why.why c.run_seats.new.seats c.in_ok-why.ensures _ c.in_ok-nodes.ensures.nodes c.requires.least c.requires.most plan room begins fit
+    c.in_ok-why.why c.run_seats.new.seats c.in_ok-why.ensures _ (c.in_ok-nodes.ensures.nodes ∙ ap (map node_of) (take_front c.in_ok-seats.seats.len c.run_seats.new.seats _ (omega (arith, c.run_seats.auto.seats, c.deref_mut.ensures.len)))) c.requires.least c.requires.most plan room begins fit
