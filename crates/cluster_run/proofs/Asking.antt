@@ -74,7 +74,6 @@ module _ (policy : Policy) {C : Type 0} (puts gives : C → List Letter) where
     by_turned turned.Idle t = λ plan room n v. let r : Rested policy plan None s.node new = t plan v.suits in (but_rest s new rested.Idle r.same, λ f. subst (λ (i : ℕ). Rests (machine policy plan) i (local policy plan s.node)) v.id r.idle.rests)
     by_turned turned.Finished t = λ plan room n v. let r : HasFinished policy plan None s.node new = t plan v.suits in (but_rest s new rested.Over r.same, λ f. subst (λ (i : ℕ). Rests (machine policy plan) i (local policy plan s.node)) v.id r.finished.idle.rests)
     by_turned turned.JournalFull t = λ plan room n v. let r : IsFull policy plan None s.node new = t plan v.suits in (but_rest s new rested.Full r.same, full, subst (λ (i : ℕ). HasMore (machine policy plan) i None (local policy plan s.node)) v.id r.more)
-    by_turned turned.NotBuilt t = tt
 
   pub asked_made : (answer : Rest) (s t : Seat Node C) → IsFilled s → Made policy answer None s t → AskedSeat policy puts gives answer s t
   asked_made answer s t full k = subst (λ (w : Seat Node C). AskedSeat policy puts gives answer s w) (sym k.same) (subst (λ (a : Rest). AskedSeat policy puts gives a s (record s { node = t.node; rest = a })) (sym k.answer_is) (by_turned s full t.node k.fits k.turned k.turns))
@@ -127,7 +126,7 @@ module _ (policy : Policy) {C : Type 0} (puts gives : C → List Letter) where
     in_no_hand : (plan : Plan) (room : ℕ) (hands : ℕ → Option Letter) (s : Seat Node C) → slice_get ys n ≡ Some s → Stopped policy puts gives plan room hands at ys → LivesAt policy plan puts gives room n None s
     in_no_hand plan room hands s is stop = subst (λ (o : Option Letter). LivesAt policy plan puts gives room n o s) (stop.off n (λ e. absurd (omega (arith, less, e)))) (stop.live.lives n s is)
 
-    pub asked_full : AskedAt policy puts gives rested.Full n ys zs → FirstFound policy puts gives at (Some n) xs zs
+    pub asked_full : AskedAt policy puts gives rested.Full n ys zs → FirstFound policy puts gives at n xs zs
     asked_full k = (
       omega (arith, less),
       λ plan room hands stop.
@@ -163,12 +162,11 @@ module _ (policy : Policy) {C : Type 0} (puts gives : C → List Letter) where
                 let same : n ≡ i = let y = x.1 in omega (arith, y, lower) in
                 subst (λ (j : ℕ). RestsFilled policy plan puts gives j ys) same (λ u e. subst (λ (w : Seat Node C). IsFilled w → Rests (machine policy plan) n (local policy plan w.node)) (some_is s u (sym is ∙ e)) r)
 
-    pub asked_more : (a : Rest) → (a ≡ rested.Full → ⊥) → (a ≡ rested.NotBuilt → ⊥) → AskedAt policy puts gives a n ys zs → SoFar pair at (n + 1) xs zs
-    asked_more rested.Full full built k = absurd (full refl)
-    asked_more rested.NotBuilt full built k = absurd (built refl)
-    asked_more rested.Busy full built k = asked_on rested.Busy k.s k.t k.is k.now k.side k.asked
-    asked_more rested.Idle full built k = asked_on rested.Idle k.s k.t k.is k.now k.side k.asked
-    asked_more rested.Over full built k = asked_on rested.Over k.s k.t k.is k.now k.side k.asked
+    pub asked_more : (a : Rest) → (a ≡ rested.Full → ⊥) → AskedAt policy puts gives a n ys zs → SoFar pair at (n + 1) xs zs
+    asked_more rested.Full full k = absurd (full refl)
+    asked_more rested.Busy full k = asked_on rested.Busy k.s k.t k.is k.now k.side k.asked
+    asked_more rested.Idle full k = asked_on rested.Idle k.s k.t k.is k.now k.side k.asked
+    asked_more rested.Over full k = asked_on rested.Over k.s k.t k.is k.now k.side k.asked
 
-  pub asked_all : (pair : C → C → Type 0) (at : ℕ) (xs ys : List (Seat Node C)) → SoFar pair at at xs ys → FirstFound policy puts gives at (Some at) xs ys
+  pub asked_all : (pair : C → C → Type 0) (at : ℕ) (xs ys : List (Seat Node C)) → SoFar pair at at xs ys → FirstFound policy puts gives at at xs ys
   asked_all pair at xs ys before = (omega arith, λ plan room hands stop. let f = before.found plan room hands stop in (record { live = f.0.live; goes = f.0.goes; below = f.1 }, f.2))

@@ -221,7 +221,6 @@ none_of f (Some x) e = absurd cc
 
 module _ (policy : Policy) {C : Type 0} (puts gives : C → List Letter) where
   abbrev pub After : Rest → Option Letter → Seat Node C → Seat Node C → Type 0
-  After rested.NotBuilt inbox s t = Unit {0}
   After rested.Full inbox s t = (plan : Plan) (room n : ℕ) → LivesAt policy plan puts gives room n inbox s → Filled policy plan puts gives room n t
   After rested.Busy inbox s t = (plan : Plan) (room n : ℕ) → LivesAt policy plan puts gives room n inbox s → Ready policy plan puts gives room n t
   After rested.Idle inbox s t = (plan : Plan) (room n : ℕ) → LivesAt policy plan puts gives room n inbox s → Ready policy plan puts gives room n t
@@ -270,7 +269,6 @@ module _ (policy : Policy) {C : Type 0} (puts gives : C → List Letter) where
   by_answer turned.Idle inbox s new fits t = idle inbox s new fits t
   by_answer turned.Finished inbox s new fits t = over inbox s new fits t
   by_answer turned.JournalFull inbox s new fits t = full inbox s new fits t
-  by_answer turned.NotBuilt inbox s new fits t = tt
 
   pub made_after : (answer : Rest) (inbox : Option Letter) (s t : Seat Node C) → Made policy answer inbox s t → After answer inbox s t
   made_after answer inbox s t k = subst (λ (w : Seat Node C). After answer inbox s w) (sym k.same) (subst (λ (a : Rest). After a inbox s (record s { node = t.node; rest = a })) (sym k.answer_is) (by_answer k.turned inbox s t.node k.fits k.turns))

@@ -118,7 +118,6 @@ module _ {C : Type 0} (puts gives : C → List Letter) (pair : C → C → Type 
     -- ---- one seat makes a round
 
     turns_set : (a : Rest) (xs : List (Seat Node C)) (at : ℕ) (s t : Seat Node C) → slice_get xs at ≡ Some s → Went policy puts gives pair a s t → TurnsAt policy puts gives a at xs (slice_set xs at t)
-    turns_set rested.NotBuilt xs at s t is w = tt
     turns_set rested.Full xs at s t is w = λ plan room r. record {
       others = λ k u apart e. r k u (set_off xs at s t is k u apart e);
       full = λ u e. subst (λ (v : Seat Node C). Filled policy plan puts gives room at v) (set_here xs at s t is u e) (w.turns plan room at (r at s is));
@@ -131,7 +130,6 @@ module _ {C : Type 0} (puts gives : C → List Letter) (pair : C → C → Type 
     round_set a xs at s t is w = record { turns = turns_set a xs at s t is w; sides = sides_set pair xs at s t is w.side }
 
     turns_after : (a : Rest) (at : ℕ) (xs ys zs : List (Seat Node C)) → StayReady policy puts gives xs ys → TurnsAt policy puts gives a at ys zs → TurnsAt policy puts gives a at xs zs
-    turns_after rested.NotBuilt at xs ys zs k t = tt
     turns_after rested.Full at xs ys zs k t = λ plan room r. t plan room (k plan room r)
     turns_after rested.Busy at xs ys zs k t = λ plan room r. t plan room (k plan room r)
     turns_after rested.Idle at xs ys zs k t = λ plan room r. t plan room (k plan room r)
@@ -151,12 +149,8 @@ module _ {C : Type 0} (puts gives : C → List Letter) (pair : C → C → Type 
       pub pass_full : (at : ℕ) → at < nodes → RoundAt policy puts gives pair rested.Full at ys zs → PassedAs policy puts gives pair nodes (passed.Full at) xs zs
       pass_full at less t = record { passes = (less, λ plan room r. t.turns plan room (before.passes plan room r)); sides = sides_then pair xs ys zs before.sides t.sides }
 
-      pub pass_unbuilt : (at : ℕ) → RoundAt policy puts gives pair rested.NotBuilt at ys zs → PassedAs policy puts gives pair nodes passed.NotBuilt xs zs
-      pass_unbuilt at t = record { passes = tt; sides = sides_then pair xs ys zs before.sides t.sides }
-
-      pub pass_on : (at : ℕ) (a : Rest) → (a ≡ rested.Full → ⊥) → (a ≡ rested.NotBuilt → ⊥) → RoundAt policy puts gives pair a at ys zs → PassedAs policy puts gives pair nodes passed.Whole xs zs
-      pass_on at rested.Full full built t = absurd (full refl)
-      pass_on at rested.NotBuilt full built t = absurd (built refl)
-      pass_on at rested.Busy full built t = record { passes = λ plan room r. t.turns plan room (before.passes plan room r); sides = sides_then pair xs ys zs before.sides t.sides }
-      pass_on at rested.Idle full built t = record { passes = λ plan room r. t.turns plan room (before.passes plan room r); sides = sides_then pair xs ys zs before.sides t.sides }
-      pass_on at rested.Over full built t = record { passes = λ plan room r. t.turns plan room (before.passes plan room r); sides = sides_then pair xs ys zs before.sides t.sides }
+      pub pass_on : (at : ℕ) (a : Rest) → (a ≡ rested.Full → ⊥) → RoundAt policy puts gives pair a at ys zs → PassedAs policy puts gives pair nodes passed.Whole xs zs
+      pass_on at rested.Full full t = absurd (full refl)
+      pass_on at rested.Busy full t = record { passes = λ plan room r. t.turns plan room (before.passes plan room r); sides = sides_then pair xs ys zs before.sides t.sides }
+      pass_on at rested.Idle full t = record { passes = λ plan room r. t.turns plan room (before.passes plan room r); sides = sides_then pair xs ys zs before.sides t.sides }
+      pass_on at rested.Over full t = record { passes = λ plan room r. t.turns plan room (before.passes plan room r); sides = sides_then pair xs ys zs before.sides t.sides }

@@ -110,7 +110,6 @@ module _ {C : Type 0} (puts gives : C → List Letter) (pair : C → C → Type 
 
   module _ (policy : Policy) where
     by_rest : (a : Rest) (inbox : Option Letter) (s t u v : Seat Node C) → Step puts gives pair None s t → Step puts gives pair inbox t u → After policy puts gives a inbox u v → Turns policy puts gives a s v
-    by_rest rested.NotBuilt inbox s t u v a b k = tt
     by_rest rested.Full inbox s t u v a b k = λ plan room n r. k plan room n (lives_step policy plan puts gives pair room n inbox t u b (lives_step policy plan puts gives pair room n None s t a r.lives))
     by_rest rested.Busy inbox s t u v a b k = λ plan room n r. k plan room n (lives_step policy plan puts gives pair room n inbox t u b (lives_step policy plan puts gives pair room n None s t a r.lives))
     by_rest rested.Idle inbox s t u v a b k = λ plan room n r. k plan room n (lives_step policy plan puts gives pair room n inbox t u b (lives_step policy plan puts gives pair room n None s t a r.lives))

@@ -17,7 +17,7 @@ use Rattle.cluster_run.specs.Standing.{BothFront, Calm, AllMet}
 use Rattle.cluster_run.specs.Seats.{Step}
 use Rattle.cluster_run.specs.Passing.{AreWithin, SameSides, AllStep, AllReady, OneFull, StayReady, Passes, PassedAs, IsAtRest, AreStill, LookedAt, LookedAll, Stilled}
 use Rattle.cluster_run.specs.Filling.{FirstFound, FirstAwaited, AreAsked}
-use Rattle.cluster_run.specs.Over.{Ran, RanAs}
+use Rattle.cluster_run.specs.Over.{Ran}
 use Rattle.cluster_run.specs.Running.{why_of, AreOver, AreFull, IsWhy}
 use Rattle.cluster_run.proofs.Calming.{calm_then}
 use Rattle.cluster_run.proofs.Passing.{sides_then, sides_steps, within_sides, stay_steps, steps_none, steps_then, steps_set, steps_calm, set_here, set_off}
@@ -67,20 +67,12 @@ module _ {C : Type 0} (puts gives : C → List Letter) (pair : C → C → Type 
 -- ---- the run
 
 module _ (policy : Policy) {C : Type 0} (puts gives : C → List Letter) (pair : C → C → Type 0) where
-  ran_as : (plan : Plan) (room : ℕ) (a : Rest) (nodes : List Node) → Ran policy plan room (why_of a) nodes → RanAs policy plan room (why_of a) nodes
-  ran_as plan room rested.Over nodes r = r
-  ran_as plan room rested.Idle nodes r = r
-  ran_as plan room rested.Busy nodes r = r
-  ran_as plan room rested.Full nodes r = r
-  ran_as plan room rested.NotBuilt nodes r = r
-
   pub passed_then : (nodes : ℕ) (how : Passed) (xs ys zs : List (Seat Node C)) → PassedAs policy puts gives pair nodes passed.Whole xs ys → PassedAs policy puts gives pair nodes how ys zs → PassedAs policy puts gives pair nodes how xs zs
   passed_then nodes how xs ys zs a b = record { passes = by how b.passes; sides = sides_then pair xs ys zs a.sides b.sides }
     where
       by : (h : Passed) → Passes policy puts gives nodes h ys zs → Passes policy puts gives nodes h xs zs
       by passed.Whole p = λ plan room r. p plan room (a.passes plan room r)
       by (passed.Full at) p = (p.0, λ plan room r. p.1 plan room (a.passes plan room r))
-      by passed.NotBuilt p = tt
 
   pub passed_still : (nodes : ℕ) (still : Bool) (xs ys zs : List (Seat Node C)) → PassedAs policy puts gives pair nodes passed.Whole xs ys → Stilled puts gives pair nodes still ys zs → PassedAs policy puts gives pair nodes passed.Whole xs zs
   passed_still nodes still xs ys zs a k = record { passes = λ plan room r. stay_steps puts gives pair policy ys zs k.steps plan room (a.passes plan room r); sides = sides_then pair xs ys zs a.sides (sides_steps puts gives pair ys zs k.steps) }
@@ -91,17 +83,16 @@ module _ (policy : Policy) {C : Type 0} (puts gives : C → List Letter) (pair :
       let sides : SameSides pair xs zs = sides_then pair xs ys zs passed.sides (sides_steps puts gives pair ys zs still.steps) in
       let n : nodes ≡ plan.nodes = same ∙ count in
       let now_ready : AllReady policy puts gives plan room zs = stay_steps puts gives pair policy ys zs still.steps plan room (passed.passes plan room ready) in
-      subst (λ (w : OverWhy). RanAs policy plan room w (map (λ (s : Seat Node C). s.node) zs)) (sym why_is.why_is)
-      (ran_as plan room why_is.home.rest (map (λ (s : Seat Node C). s.node) zs)
+      subst (λ (w : OverWhy). Ran policy plan room w (map (λ (s : Seat Node C). s.node) zs)) (sym why_is.why_is)
       (ran_still policy fit plan is_plan puts gives pair zs (sides.count ∙ count) (let c = sides.count in omega (arith, c, most)) (within_sides pair plan.nodes xs zs sides within) room now_ready
-      (subst (λ (w : ℕ). AreStill puts gives pair w zs) n (still.are refl)) why_is.home why_is.is))
+      (subst (λ (w : ℕ). AreStill puts gives pair w zs) n (still.are refl)) why_is.home why_is.is)
 
   -- a journal was full
   pub over_full : (nodes at : ℕ) (result : OverWhy) (xs ys zs : List (Seat Node C)) → PassedAs policy puts gives pair nodes (passed.Full at) xs ys → AreFull policy puts gives at result ys zs → AreOver policy puts gives result xs zs
   over_full nodes at result xs ys zs passed full plan room is_plan fit count most within ready =
       full plan room is_plan fit (passed.sides.count ∙ count) (let c = passed.sides.count in omega (arith, c, most)) (within_sides pair plan.nodes xs ys passed.sides within) (passed.passes.1 plan room ready)
 
-  pub full_led : (nodes at first r : ℕ) (none : Bool) (xs ys zs fs : List (Seat Node C)) → nodes ≡ length xs → at < length xs → SameSides pair xs ys → FirstFound policy puts gives at (Some first) xs ys → FirstAwaited puts gives pair nodes first r ys zs → AllMet puts gives pair none nodes nodes zs fs
+  pub full_led : (nodes at first r : ℕ) (none : Bool) (xs ys zs fs : List (Seat Node C)) → nodes ≡ length xs → at < length xs → SameSides pair xs ys → FirstFound policy puts gives at first xs ys → FirstAwaited puts gives pair nodes first r ys zs → AllMet puts gives pair none nodes nodes zs fs
       → AreFull policy puts gives at (why.Full r) xs fs
   full_led nodes at first r none xs ys zs fs same below sides found awaited met plan room is_plan fit count most within one =
       let n : nodes ≡ plan.nodes = same ∙ count in

@@ -11,7 +11,7 @@ use Rattle.cluster_run.specs.declared.seat.Seat.{Seat}
 use Rattle.cluster_run.specs.declared.over.OverWhy.{OverWhy}
 use Rattle.cluster_run.specs.Standing.{AreLinked}
 use Rattle.cluster_run.specs.Passing.{AreWithin, AllReady}
-use Rattle.cluster_run.specs.Over.{Begins, RanAs}
+use Rattle.cluster_run.specs.Over.{Begins, Ran}
 use Rattle.cluster_run.specs.Running.{AreOver}
 use Rattle.cluster_run.specs.Seating.{seats_of, node_of}
 use Rattle.cluster_run.proofs.Seated.{seats_count, linked_seats, within_seats, ready_seats}
@@ -31,11 +31,11 @@ module _ {C : Type 0} (pair : C → C → Type 0) (last : ℕ) (nodes : List Nod
   seated_count = ap length is ∙ seats_count last nodes carriers (sym pairs.count)
 
   module _ (puts gives : C → List Letter) (total : C → ℕ) (fresh : EachIs (IsFresh puts gives total) carriers) (policy : Policy) (why : OverWhy) (new : List (Seat Node C)) (over : AreOver policy puts gives why seats new) (out : List Node) (out_is : out ≡ map node_of new) where
-    pub serial_ran : 1 ≤ length nodes → length nodes ≤ 8 → (plan : Plan) (room : ℕ) → Begins plan room nodes → IsFitting policy → RanAs policy plan room why out
+    pub serial_ran : 1 ≤ length nodes → length nodes ≤ 8 → (plan : Plan) (room : ℕ) → Begins plan room nodes → IsFitting policy → Ran policy plan room why out
     serial_ran least most plan room begins fit =
         let g = seat_at nodes 0 (omega (arith, least)) in
         let is_plan : IsPlan plan = (begins.each 0 g.0 g.1).beginning.is_plan in
-        subst (λ (w : List Node). RanAs policy plan room why w) (sym out_is)
+        subst (λ (w : List Node). Ran policy plan room why w) (sym out_is)
         (over plan room is_plan fit (seated_count ∙ begins.count) (let c = seated_count in omega (arith, c, most))
         (subst (λ (n : ℕ). AreWithin n seats) begins.count (subst (λ (w : List (Seat Node C)). AreWithin (length nodes) w) (sym is) (within_seats pair last nodes carriers pairs)))
         (subst (λ (w : List (Seat Node C)). AllReady policy puts gives plan room w) (sym is) (ready_seats pair last nodes carriers pairs puts gives total fresh policy plan room begins)))

@@ -20,7 +20,7 @@ use Rattle.cluster_run.specs.declared.over.OverWhy.TheVariants as why
 use Rattle.weave.specs.Weaves.{AreJournals}
 use Rattle.cluster_run.specs.Seats.{bound, waiting, Found, Ready, LivesAt}
 use Rattle.cluster_run.specs.Passing.{AreWithin, AllReady, IsRest, AreStill}
-use Rattle.cluster_run.specs.Over.{AreWoven, IsOver, Ran, RanAs}
+use Rattle.cluster_run.specs.Over.{AreWoven, IsOver, Ran}
 use Rattle.cluster_run.specs.Running.{why_of}
 use Rattle.cluster_run.proofs.Living.{nothing_if}
 use Rattle.cluster_run.proofs.Assembling.{Part, front, lying}
@@ -49,7 +49,6 @@ found_rests policy plan n rested.Idle l r f = f.0
 found_rests policy plan n rested.Over l r f = f.0
 found_rests policy plan n rested.Busy l r f = absurd r
 found_rests policy plan n rested.Full l r f = absurd r
-found_rests policy plan n rested.NotBuilt l r f = absurd r
 
 -- what the seats did by themselves are journals
 pub journals_are : (policy : Policy) (plan : Plan) {C : Type 0} (puts gives : C → List Letter) (room : ℕ) (hands : ℕ → Option Letter) (seats : List (Seat Node C)) → ((k : ℕ) (s : Seat Node C) → slice_get seats k ≡ Some s → LivesAt policy plan puts gives room k (hands k) s)
@@ -59,6 +58,14 @@ journals_are policy plan {C} puts gives room hands seats lives = are_journals 0 
     let v = lives k g.0 g.1 in
     let same : k ≡ 0 + k = omega arith in
     subst (λ (i : ℕ). IsJournal i x.journal.events) same (subst (λ (n : Node). IsJournal k n.journal.events) g.2 (journal_of (machine policy plan) plan.script k v.acts (local policy plan g.0.node) g.0.node.journal.events v.lone v.journal_is)))
+
+-- they come back in their places, none with more events than there is room for
+pub places_are : (policy : Policy) (plan : Plan) {C : Type 0} (puts gives : C → List Letter) (room : ℕ) (hands : ℕ → Option Letter) (seats : List (Seat Node C)) → ((k : ℕ) (s : Seat Node C) → slice_get seats k ≡ Some s → LivesAt policy plan puts gives room k (hands k) s)
+    → (k : ℕ) (n : Node) → slice_get (map (λ (s : Seat Node C). s.node) seats) k ≡ Some n → (n.id ≡ k) × (length n.journal.events ≤ room)
+places_are policy plan {C} puts gives room hands seats lives k n e =
+    let g = map_got (λ (s : Seat Node C). s.node) seats k n e in
+    let v = lives k g.0 g.1 in
+    subst (λ (x : Node). (x.id ≡ k) × (length x.journal.events ≤ room)) g.2 (v.id, v.fits)
 
 module _ (policy : Policy) (fit : IsFitting policy) (plan : Plan) (is_plan : IsPlan plan) {C : Type 0} (puts gives : C → List Letter) (pair : C → C → Type 0) (seats : List (Seat Node C)) (count : length seats ≡ plan.nodes) (most : length seats ≤ 8) (within : AreWithin plan.nodes seats) (room : ℕ) (ready : AllReady policy puts gives plan room seats) (still : AreStill puts gives pair plan.nodes seats) where
   lives : (k : ℕ) (s : Seat Node C) → slice_get seats k ≡ Some s → LivesAt policy plan puts gives room k None s
@@ -110,11 +117,11 @@ module _ (policy : Policy) (fit : IsFitting policy) (plan : Plan) (is_plan : IsP
             concluded policy fit plan is_plan puts gives pair seats count most within es woven room (λ k. None) lives (λ k e. refl) true still.links why.Stuck (all_rest, x.0, x.1)
         by rested.Busy r f = absurd r
         by rested.Full r f = absurd r
-        by rested.NotBuilt r f = absurd r
 
   pub ran_still : (s : Seat Node C) → slice_get seats 0 ≡ Some s → Ran policy plan room (why_of s.rest) (map (λ (s : Seat Node C). s.node) seats)
   ran_still s e = record {
     count = length_map (λ (s : Seat Node C). s.node) seats ∙ count;
+    places = places_are policy plan puts gives room (λ k. None) seats lives;
     journals = journals_are policy plan puts gives room (λ k. None) seats lives;
     over = λ es woven. over_by es woven s e s.rest refl;
   }

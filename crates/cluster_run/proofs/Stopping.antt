@@ -31,7 +31,7 @@ use Rattle.cluster_run.proofs.Calming.{below as below_length}
 use Rattle.cluster_run.proofs.Living.{nothing_if}
 use Rattle.cluster_run.proofs.Assembling.{Part, front, lying, in_hand}
 use Rattle.cluster_run.proofs.Concluding.{length_map, at, cluster, ending, concluded, own_of}
-use Rattle.cluster_run.proofs.Stilled.{seat_at, none_more, journals_are}
+use Rattle.cluster_run.proofs.Stilled.{seat_at, none_more, journals_are, places_are}
 
 -- ---- letters to a node
 
@@ -157,6 +157,7 @@ module _ (policy : Policy) (fit : IsFitting policy) (plan : Plan) (is_plan : IsP
   pub ran_full : Ran policy plan room (why.Full r) (map (λ (s : Seat Node C). s.node) seats)
   ran_full = record {
     count = length_map (λ (s : Seat Node C). s.node) seats ∙ count;
+    places = places_are policy plan puts gives room hands seats least.live.lives;
     journals = journals_are policy plan puts gives room hands seats least.live.lives;
     over = λ es woven. over_full es woven;
   }

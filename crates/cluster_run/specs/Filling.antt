@@ -51,9 +51,8 @@ pub record AllSameButRest {C : Type 0} (old new : List (Seat Node C)) : Type 0 w
   pub each : (k : ℕ) (t : Seat Node C) → slice_get new k ≡ Some t → (s : Seat Node C) × (slice_get old k ≡ Some s) × SameButRest s t
 
 module _ (policy : Policy) {C : Type 0} (puts gives : C → List Letter) where
-  -- what a seat was asked, and its answer; nothing is said where the turn was not built
+  -- what a seat was asked, and its answer
   abbrev pub AskedSeat : Rest → Seat Node C → Seat Node C → Type 0
-  AskedSeat rested.NotBuilt s t = Unit {0}
   AskedSeat rested.Full s t = (plan : Plan) (room n : ℕ) → LivesAt policy plan puts gives room n None s → SameButRest s t × IsFilled s × HasMore (machine policy plan) n None (local policy plan s.node)
   AskedSeat rested.Busy s t = (plan : Plan) (room n : ℕ) → LivesAt policy plan puts gives room n None s → SameButRest s t × (IsFilled s → Rests (machine policy plan) n (local policy plan s.node))
   AskedSeat rested.Idle s t = (plan : Plan) (room n : ℕ) → LivesAt policy plan puts gives room n None s → SameButRest s t × (IsFilled s → Rests (machine policy plan) n (local policy plan s.node))
@@ -75,9 +74,8 @@ module _ (policy : Policy) {C : Type 0} (puts gives : C → List Letter) where
     pub off : (k : ℕ) → k ≢ at → hands k ≡ None
 
   -- the first that goes on by itself was found below `at`, or is `at`
-  abbrev pub FirstFound : ℕ → Option ℕ → List (Seat Node C) → List (Seat Node C) → Type 0
-  FirstFound at None old new = Unit {0}
-  FirstFound at (Some n) old new = (n ≤ at) × ((plan : Plan) (room : ℕ) (hands : ℕ → Option Letter) → Stopped plan room hands at old → AreAsked policy plan puts gives room hands n new × (AllSameButRest old new))
+  abbrev pub FirstFound : ℕ → ℕ → List (Seat Node C) → List (Seat Node C) → Type 0
+  FirstFound at n old new = (n ≤ at) × ((plan : Plan) (room : ℕ) (hands : ℕ → Option Letter) → Stopped plan room hands at old → AreAsked policy plan puts gives room hands n new × (AllSameButRest old new))
 
 -- ---- looking for letters to nodes with full journals
 

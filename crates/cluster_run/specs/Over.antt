@@ -47,7 +47,6 @@ abbrev pub OverAs : (policy : Policy) (plan : Plan) → ℕ → OverWhy → List
 OverAs policy plan room why.Done es w m = AllRest (machine policy plan) w × IsDone (machine policy plan) (all_noted plan.script es) m × AllSettled (machine policy plan) (all_noted plan.script es)
 OverAs policy plan room why.Stuck es w m = AllRest (machine policy plan) w × IsStuck (machine policy plan) (all_noted plan.script es) m × SettledOrOpen (machine policy plan) (all_noted plan.script es) m
 OverAs policy plan room (why.Full n) es w m = IsFull (machine policy plan) room n (all_noted plan.script es) m w
-OverAs policy plan room why.NotBuilt es w m = Unit {0}
 
 -- what holds of a run that is over, whose events are these
 pub record IsOver (policy : Policy) (plan : Plan) (room : ℕ) (why : OverWhy) (nodes : List Node) (es : List Event) : Type 0 where
@@ -69,10 +68,3 @@ pub record Ran (policy : Policy) (plan : Plan) (room : ℕ) (why : OverWhy) (nod
   pub places : (k : ℕ) (n : Node) → slice_get nodes k ≡ Some n → (n.id ≡ k) × (length n.journal.events ≤ room)
   pub journals : AreJournals 0 (map (λ (n : Node). n.journal) nodes)
   pub over : (es : List Event) → AreWoven plan nodes es → IsOver policy plan room why nodes es
-
--- nothing is said where a turn was not built
-abbrev pub RanAs : Policy → Plan → ℕ → OverWhy → List Node → Type 0
-RanAs policy plan room why.NotBuilt nodes = Unit {0}
-RanAs policy plan room why.Done nodes = Ran policy plan room why.Done nodes
-RanAs policy plan room why.Stuck nodes = Ran policy plan room why.Stuck nodes
-RanAs policy plan room (why.Full n) nodes = Ran policy plan room (why.Full n) nodes

@@ -47,7 +47,6 @@ module _ (policy : Policy) {C : Type 0} (puts gives : C → List Letter) where
 
   -- by the answer of a turn at one seat
   abbrev pub TurnsAt : Rest → ℕ → List (Seat Node C) → List (Seat Node C) → Type 0
-  TurnsAt rested.NotBuilt at old new = Unit {0}
   TurnsAt rested.Full at old new = BecomeFull at old new
   TurnsAt rested.Busy at old new = StayReady old new
   TurnsAt rested.Idle at old new = StayReady old new
@@ -62,7 +61,6 @@ module _ (policy : Policy) {C : Type 0} (puts gives : C → List Letter) where
   abbrev pub Passes : ℕ → Passed → List (Seat Node C) → List (Seat Node C) → Type 0
   Passes nodes passed.Whole old new = StayReady old new
   Passes nodes (passed.Full node) old new = (node < nodes) × BecomeFull node old new
-  Passes nodes passed.NotBuilt old new = Unit {0}
 
   pub record PassedAs (pair : C → C → Type 0) (nodes : ℕ) (how : Passed) (old new : List (Seat Node C)) : Type 0 where
     pub passes : Passes nodes how old new
@@ -76,7 +74,6 @@ IsRest rested.Idle = Unit {0}
 IsRest rested.Over = Unit {0}
 IsRest rested.Busy = ⊥
 IsRest rested.Full = ⊥
-IsRest rested.NotBuilt = ⊥
 
 module _ {C : Type 0} where
   -- so it was at this seat, and no letter waits there

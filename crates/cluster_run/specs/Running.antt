@@ -11,7 +11,7 @@ use Rattle.cluster_run.specs.declared.seat.Rest.TheVariants as rested
 use Rattle.cluster_run.specs.declared.over.OverWhy.{OverWhy}
 use Rattle.cluster_run.specs.declared.over.OverWhy.TheVariants as why
 use Rattle.cluster_run.specs.Passing.{AreWithin, AllReady, OneFull}
-use Rattle.cluster_run.specs.Over.{RanAs}
+use Rattle.cluster_run.specs.Over.{Ran}
 
 -- why a run is over in which nothing is left to be done, by the last answer of home
 abbrev pub why_of : Rest → OverWhy
@@ -19,12 +19,11 @@ why_of rested.Over = why.Done
 why_of rested.Idle = why.Stuck
 why_of rested.Busy = why.Stuck
 why_of rested.Full = why.Stuck
-why_of rested.NotBuilt = why.Stuck
 
 -- the run of seats that were ready is over
 abbrev pub AreOver : Policy → {C : Type 0} (puts gives : C → List Letter) → OverWhy → List (Seat Node C) → List (Seat Node C) → Type 0
 AreOver policy {C} puts gives why old new =
-    (plan : Plan) (room : ℕ) → IsPlan plan → IsFitting policy → length old ≡ plan.nodes → length old ≤ 8 → AreWithin plan.nodes old → AllReady policy puts gives plan room old → RanAs policy plan room why (map (λ (s : Seat Node C). s.node) new)
+    (plan : Plan) (room : ℕ) → IsPlan plan → IsFitting policy → length old ≡ plan.nodes → length old ≤ 8 → AreWithin plan.nodes old → AllReady policy puts gives plan room old → Ran policy plan room why (map (λ (s : Seat Node C). s.node) new)
 
 pub record IsWhy {C : Type 0} (why : OverWhy) (seats : List (Seat Node C)) : Type 0 where
   pub home : Seat Node C
@@ -34,4 +33,4 @@ pub record IsWhy {C : Type 0} (why : OverWhy) (seats : List (Seat Node C)) : Typ
 -- the run of seats of which one found its journal full is over
 abbrev pub AreFull : Policy → {C : Type 0} (puts gives : C → List Letter) → ℕ → OverWhy → List (Seat Node C) → List (Seat Node C) → Type 0
 AreFull policy {C} puts gives at why old new =
-    (plan : Plan) (room : ℕ) → IsPlan plan → IsFitting policy → length old ≡ plan.nodes → length old ≤ 8 → AreWithin plan.nodes old → OneFull policy puts gives plan room at old → RanAs policy plan room why (map (λ (s : Seat Node C). s.node) new)
+    (plan : Plan) (room : ℕ) → IsPlan plan → IsFitting policy → length old ≡ plan.nodes → length old ≤ 8 → AreWithin plan.nodes old → OneFull policy puts gives plan room at old → Ran policy plan room why (map (λ (s : Seat Node C). s.node) new)

@@ -27,7 +27,6 @@ rest_of turned.Did = rested.Busy
 rest_of turned.Idle = rested.Idle
 rest_of turned.Finished = rested.Over
 rest_of turned.JournalFull = rested.Full
-rest_of turned.NotBuilt = rested.NotBuilt
 
 -- the letters to a node
 abbrev pub bound : ℕ → List Letter → List Letter
@@ -99,7 +98,6 @@ module _ (policy : Policy) (plan : Plan) where
   Found n rested.Idle l = Rests (machine policy plan) n l × (n ≡ 0 → Finished (machine policy plan) l → ⊥)
   Found n rested.Over l = Rests (machine policy plan) n l × (n ≡ 0) × Finished (machine policy plan) l
   Found n rested.Full l = ⊥
-  Found n rested.NotBuilt l = ⊥
 
   module _ {C : Type 0} (puts gives : C → List Letter) where
     abbrev pub LivesAt : ℕ → ℕ → Option Letter → Seat Node C → Type 0
@@ -120,9 +118,8 @@ module _ (policy : Policy) (plan : Plan) where
 -- ---- a round
 
 module _ (policy : Policy) {C : Type 0} (puts gives : C → List Letter) where
-  -- what a round makes of a seat that is ready; nothing is said where its turn was not built
+  -- what a round makes of a seat that is ready
   abbrev pub Turns : Rest → Seat Node C → Seat Node C → Type 0
-  Turns rested.NotBuilt old new = Unit {0}
   Turns rested.Full old new = (plan : Plan) (room n : ℕ) → Ready policy plan puts gives room n old → Filled policy plan puts gives room n new
   Turns rested.Busy old new = (plan : Plan) (room n : ℕ) → Ready policy plan puts gives room n old → Ready policy plan puts gives room n new
   Turns rested.Idle old new = (plan : Plan) (room n : ℕ) → Ready policy plan puts gives room n old → Ready policy plan puts gives room n new

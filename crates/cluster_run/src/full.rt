@@ -77,25 +77,24 @@ fn ask_at<C: Carrier, P: Chooser>(
     Ok(rest)
 }
 
-/// The first node below one with a full journal that would go on by itself, else that one. None where a turn is not built yet.
+/// The first node below one with a full journal that would go on by itself, else that one.
 pub(crate) fn first_full<C: Carrier, P: Chooser>(
     alloc: Global,
     seats: &mut [Seat<Node, C>],
     node: u8,
     policy: &Policy<P>,
-) -> Result<Option<u8>, NoMemory>
+) -> Result<u8, NoMemory>
     requires within { node < length seats.old }
     ensures found { IfOk result (λ found. FirstFound (given_by (P.answers policy.now)) C.puts C.gives node found seats.old seats.new) }
     ensures sides { OnOk result (SameSides C.pair seats.old seats.new) }
 {
     for at in 0..node {
         match ask_at(alloc, seats, at, policy)? {
-            Rest::Full => return Ok(Some(at)),
-            Rest::NotBuilt => return Ok(None),
+            Rest::Full => return Ok(at),
             _ => {}
         }
     }
-    Ok(Some(node))
+    Ok(node)
 }
 
 /// Whether a letter to a node waits at any seat.

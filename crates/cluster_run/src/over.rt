@@ -15,8 +15,6 @@ pub enum OverWhy {
     Stuck,
     /// A journal is full where more is due. The node is the least such one.
     Full { node: u8 },
-    /// A turn came that is not built yet.
-    NotBuilt,
 }
 
 /// A run that is over: the nodes and the carriers as it left them.

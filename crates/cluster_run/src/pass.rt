@@ -19,8 +19,6 @@ pub(crate) enum Passed {
     Whole,
     /// The turn of this node found its journal full.
     Full { node: u8 },
-    /// A turn came that is not built yet.
-    NotBuilt,
 }
 
 /// A round of one seat.
@@ -70,7 +68,6 @@ pub(crate) fn pass<C: Carrier, P: Chooser>(
     for at in 0..nodes {
         match turn_at(alloc, seats, at, nodes, policy)? {
             Rest::Full => return Ok(Passed::Full { node: at }),
-            Rest::NotBuilt => return Ok(Passed::NotBuilt),
             _ => {}
         }
     }

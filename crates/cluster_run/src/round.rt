@@ -22,7 +22,6 @@ fn rest_of(turned: Turned) -> Rest
         Turned::Idle => Rest::Idle,
         Turned::Finished => Rest::Over,
         Turned::JournalFull => Rest::Full,
-        Turned::NotBuilt => Rest::NotBuilt,
     }
 }
 

@@ -47,15 +47,10 @@ fn why_full<C: Carrier, P: Chooser>(
     requires linked { AreLinked C.pair seats.old }
     ensures { IfOk result (λ why. AreFull (given_by (P.answers policy.now)) C.puts C.gives node why seats.old seats.new) }
 {
-    let found = first_full(alloc, seats, node, policy)?;
-    match found {
-        Some(first) => {
-            let least = first_awaited(seats, first, nodes)?;
-            let _none = meet_all(seats, nodes)?;
-            Ok(OverWhy::Full { node: least })
-        }
-        None => Ok(OverWhy::NotBuilt),
-    }
+    let first = first_full(alloc, seats, node, policy)?;
+    let least = first_awaited(seats, first, nodes)?;
+    let _none = meet_all(seats, nodes)?;
+    Ok(OverWhy::Full { node: least })
 }
 
 /// The nodes make turns one after another, round and round, until each rests and nothing lies on the way, or a journal is full where more is due.
@@ -77,7 +72,6 @@ pub(crate) fn run_seats<C: Carrier, P: Chooser>(
                 let why = why_full(alloc, seats, node, nodes, policy)?;
                 return Ok(why);
             }
-            Passed::NotBuilt => return Ok(OverWhy::NotBuilt),
             Passed::Whole => {
                 let still = is_still(seats, nodes)?;
                 if still {

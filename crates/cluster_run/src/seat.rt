@@ -13,8 +13,6 @@ pub enum Rest {
     Over,
     /// More was due, and the journal is full.
     Full,
-    /// What was due is not built yet.
-    NotBuilt,
 }
 
 /// A node, whatever it is, at its seat: its side of the carriers, the letter that a link gave back and that goes out first, the source of the

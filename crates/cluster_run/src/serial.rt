@@ -3,7 +3,7 @@ ghost use Rattle.std.specs.Prelude.{◌≡◌, ◌≤◌, ℕ, length, IfOk};
 ghost use Rattle.node_links.specs.Sides.{InPairs, EachIs, IsFresh};
 ghost use Rattle.node_machine.specs.Plan.{Plan};
 ghost use Rattle.node_machine.specs.Policy.{IsFitting, given_by};
-ghost use Rattle.cluster_run.specs.Over.{Begins, RanAs};
+ghost use Rattle.cluster_run.specs.Over.{Begins, Ran};
 
 use crate::over::{Nodes, Over};
 use crate::run::run_seats;
@@ -25,7 +25,7 @@ pub fn run_serial<C: Carrier + Drop, P: Chooser>(
     requires most { length nodes ≤ 8 }
     requires pairs { InPairs C.pair (length nodes) carriers }
     requires fresh { EachIs (IsFresh C.puts C.gives C.total) carriers }
-    ensures { IfOk result (λ over. (plan : Plan) (room : ℕ) → Begins plan room nodes → IsFitting (given_by (P.answers policy.now)) → RanAs (given_by (P.answers policy.now)) plan room over.why over.nodes) }
+    ensures { IfOk result (λ over. (plan : Plan) (room : ℕ) → Begins plan room nodes → IsFitting (given_by (P.answers policy.now)) → Ran (given_by (P.answers policy.now)) plan room over.why over.nodes) }
 {
     let count = nodes.len() as u8;
     let mut seats = seated(alloc, nodes, carriers, count - 1)?;

@@ -15,14 +15,8 @@ returns-in-Full g c = record {
   sides = asked_sides (given_by (g.P.Chooser.answers c.args.policy.now)) g.C.Carrier.puts g.C.Carrier.gives g.C.Carrier.pair c.args.node c.loop-at.at (omega (arith, c.loop-at-test.true)) c.args.seats.now c.loop-at.seats c.ask_at.new.seats c.loop-at.invariant c.in_ok-ask_at.field-0 c.in_ok-ask_at.ensures;
 }
 
-pub returns-in-NotBuilt : goal.returns-in-NotBuilt
-returns-in-NotBuilt g c = record {
-  found = tt;
-  sides = asked_sides (given_by (g.P.Chooser.answers c.args.policy.now)) g.C.Carrier.puts g.C.Carrier.gives g.C.Carrier.pair c.args.node c.loop-at.at (omega (arith, c.loop-at-test.true)) c.args.seats.now c.loop-at.seats c.ask_at.new.seats c.loop-at.invariant c.in_ok-ask_at.field-0 c.in_ok-ask_at.ensures;
-}
-
 pub loop-at-preserved : goal.loop-at-preserved
-loop-at-preserved g c = asked_more (given_by (g.P.Chooser.answers c.args.policy.now)) g.C.Carrier.puts g.C.Carrier.gives g.C.Carrier.pair c.args.node c.loop-at.at (omega (arith, c.loop-at-test.true)) c.args.seats.now c.loop-at.seats c.ask_at.new.seats c.loop-at.invariant c.in_ok-ask_at.field-0 c.in_default.not-Full c.in_default.not-NotBuilt c.in_ok-ask_at.ensures
+loop-at-preserved g c = asked_more (given_by (g.P.Chooser.answers c.args.policy.now)) g.C.Carrier.puts g.C.Carrier.gives g.C.Carrier.pair c.args.node c.loop-at.at (omega (arith, c.loop-at-test.true)) c.args.seats.now c.loop-at.seats c.ask_at.new.seats c.loop-at.invariant c.in_ok-ask_at.field-0 c.in_default.not-Full c.in_ok-ask_at.ensures
 
 pub returns : goal.returns
 returns g c =
