@@ -15,8 +15,6 @@ mod rotation;
 mod shape;
 mod sight;
 mod talk;
-#[cfg(test)]
-mod tests;
 mod turn;
 
 pub use node::Node;

@@ -1,4 +1,6 @@
 // hello on one node.
+ghost use Rattle.std.specs.Prelude.{◌≡◌, length, IfOk};
+
 use call_table::Words;
 use cluster_run::{Nodes, Over, OverWhy, run_serial};
 use elf_load::load;
@@ -47,10 +49,20 @@ fn plan(alloc: Global) -> Result<Plan, Fail> {
 }
 
 /// Home alone, with room for so many events.
-fn nodes(alloc: Global, journal: u32) -> Result<Nodes, Fail> {
+fn home_alone(alloc: Global, journal: u32) -> Result<Nodes, Fail>
+    ensures { IfOk result (λ nodes. length nodes ≡ 1) }
+{
     let mut nodes = Nodes::new(alloc);
     nodes.push(Node::home(alloc, shape(journal), plan(alloc)?)?)?;
     Ok(nodes)
+}
+
+/// Its run over rings, under the policy that moves nothing.
+fn run(alloc: Global, journal: u32) -> Result<Over<RingCarrier>, Fail> {
+    let nodes = home_alone(alloc, journal)?;
+    let carriers = ring_carriers(alloc, 1)?;
+    let over = run_serial(alloc, nodes, carriers, &never_policy())?;
+    Ok(over)
 }
 
 /// How many letters home took from itself.
@@ -67,13 +79,7 @@ fn events(rt: &impl Abort, over: &Over<RingCarrier>) -> usize {
 /// hello runs to its end in nine events, and its two calls and their replies went over the link from home to itself.
 #[test]
 fn hello_is_done(rt: HostRuntime) -> Result<(), Fail> {
-    let alloc = rt.alloc();
-    let over = run_serial(
-        alloc,
-        nodes(alloc, 100)?,
-        ring_carriers(alloc, 1)?,
-        &never_policy(),
-    )?;
+    let over = run(rt.alloc(), 100)?;
     assert_eq!(rt; over.why, OverWhy::Done);
     assert_eq!(rt; (events(&rt, &over), taken(&rt, &over)), (9, 4));
     Ok(())
@@ -82,13 +88,7 @@ fn hello_is_done(rt: HostRuntime) -> Result<(), Fail> {
 /// With room for five events the journal of home is full where more is due.
 #[test]
 fn a_full_journal(rt: HostRuntime) -> Result<(), Fail> {
-    let alloc = rt.alloc();
-    let over = run_serial(
-        alloc,
-        nodes(alloc, 5)?,
-        ring_carriers(alloc, 1)?,
-        &never_policy(),
-    )?;
+    let over = run(rt.alloc(), 5)?;
     assert_eq!(rt; over.why, OverWhy::Full { node: 0 });
     assert_eq!(rt; events(&rt, &over), 5);
     Ok(())
