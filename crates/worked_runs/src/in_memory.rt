@@ -77,9 +77,7 @@ pub fn run_to_end(
     let words = words_of(alloc, words)?;
     let mut rng = Pcg32::seed_from_u64(1);
     let policy = never_policy();
-    Ok(mosix(
-        alloc, &words, source, images, sink, &mut rng, &policy,
-    ))
+    Ok(mosix(alloc, &words, source, images, sink, &mut rng, &policy))
 }
 
 /// The status of one run, and why.

@@ -9,7 +9,7 @@ use std::test::Fail;
 /// The words of a run on four nodes.
 const FOUR: [&str; 1] = ["run"];
 
-/// Scripts for four nodes, and the line of the answer. A script without a fault is not built.
+/// Scripts for four nodes, and the line of the answer, or the report of one without a fault.
 const SCRIPTS: [(&[u8], u8, &[u8]); 40] = [
     (b"jump 1", 3, b"bad script 1 3\n"),
     (b"RUN hello", 3, b"bad script 1 3\n"),
@@ -51,18 +51,30 @@ const SCRIPTS: [(&[u8], u8, &[u8]); 40] = [
         b"bad image 3 1\n",
     ),
     (b"eof\nrun short a b\nrun cut", 4, b"bad image 2 8\n"),
-    (b"", 10, b"not built\n"),
-    (b"eof\r\n", 10, b"not built\n"),
-    (b"wait 0000000001", 10, b"not built\n"),
-    (b"move 1 3\nmove 32767 0003", 10, b"not built\n"),
-    (b"type\ntype \ntype  a b\t# c\n", 10, b"not built\n"),
+    (b"", 0, b"terminal 0\n\ndone\n"),
+    (b"eof\r\n", 0, b"terminal 0\n\ndone\n"),
+    (b"wait 0000000001", 1, b"terminal 0\n\nstuck\n"),
+    (
+        b"move 1 3\nmove 32767 0003",
+        0,
+        b"terminal 0\n\nnone 1\nnone 32767\ndone\n",
+    ),
+    (b"type\ntype \ntype  a b\t# c\n", 0, b"terminal 0\n\ndone\n"),
     (
         b"kill 1 9\nafter 1 1000000\nheld 1\nslots 64\n",
-        10,
-        b"not built\n",
+        1,
+        b"terminal 0\n\nstuck\n",
     ),
-    (b"run hello\nrun edge a b c\n", 10, b"not built\n"),
-    (b"\trun \thello\n", 10, b"not built\n"),
+    (
+        b"run hello\nrun edge a b c\n",
+        0,
+        b"terminal 3\nhi\n\nprocess 1 exit 0\nprocess 2 signal 11\ndone\n",
+    ),
+    (
+        b"\trun \thello\n",
+        0,
+        b"terminal 3\nhi\n\nprocess 1 exit 0\ndone\n",
+    ),
 ];
 
 fn script_tells(
@@ -111,13 +123,13 @@ type Long<'a> = (&'a [u8], u32, &'a [u8], u8, &'a [u8]);
 const LIMITS: [Long<'static>; 12] = [
     (b"#.......\n", 7281, b"######\n", 3, b"bad script 1001 1\n"),
     (b"#.......\n", 7281, b"######\n#", 3, b"bad script 0 1\n"),
-    (b"\n", 999, b"eof", 10, b"not built\n"),
-    (b"\n", 1000, b"", 10, b"not built\n"),
+    (b"\n", 999, b"eof", 0, b"terminal 0\n\ndone\n"),
+    (b"\n", 1000, b"", 0, b"terminal 0\n\ndone\n"),
     (b"\n", 1000, b"#", 3, b"bad script 1001 1\n"),
-    (b"#", 1024, b"\r\neof", 10, b"not built\n"),
+    (b"#", 1024, b"\r\neof", 0, b"terminal 0\n\ndone\n"),
     (b"#", 1025, b"\neof", 3, b"bad script 1 1\n"),
     (b"\x01", 1025, b"", 3, b"bad script 1 1\n"),
-    (b"run hello\n", 256, b"eof", 10, b"not built\n"),
+    (b"run hello\n", 256, b"move 1 4", 3, b"bad script 257 5\n"),
     (b"run hello\n", 256, b"run", 3, b"bad script 257 1\n"),
     (b"run none\n", 256, b"run none", 3, b"bad script 257 1\n"),
     (b"run hello\n", 255, b"run none", 4, b"bad image 256 12\n"),
