@@ -3,6 +3,18 @@
 /// Nodes of a cluster.
 pub const NODES: u8 = 8;
 
+/// The least pages of a node.
+pub const LEAST_NODE_PAGES: u32 = 16;
+
+/// Pages of a node.
+pub const NODE_PAGES: u32 = 65_536;
+
+/// Steps of a turn.
+pub const QUANTUM: u32 = 65_536;
+
+/// Events of a node's journal.
+pub const JOURNAL: u32 = 1_048_576;
+
 /// Pages of a process.
 pub const PAGES: u32 = 1024;
 

@@ -1,7 +1,6 @@
 -- Pages with rights, as a map from page numbers. A page has 4,096 bytes, and there are 2 ^ 20 of them in the 2 ^ 32 addresses.
 use Rattle.std.specs.Prelude.{ℕ, zero, suc, ◌+◌, ◌*◌, ◌/◌, ◌%◌, ◌^◌, ◌<◌, ◌≤◌, ◌≡◌, IsSome, List, [], ◌∷◌, ◌++◌, Option, Some, None, Result, Ok, Err, ◌==◌, if◌then◌else◌, slice_index, slice_set, bit_and, bit_or, length, replicate, take, drop, refl}
 use Rattle.std.specs.Option.{option_map}
-use Rattle.std.specs.Int.{w32, from_le_bytes}
 use Rattle.std.specs.Coded.{Coded, code_by, coded×, coded_ℕ, coded_list}
 use Rattle.std.specs.Ordering.{nat_cmp}
 use Rattle.std.specs.FinMap as map
@@ -48,14 +47,6 @@ flat_at = bytes_along (λ addr. addr + 1)
 abbrev pub behind : List ℕ → Result (List ℕ) ℕ → Result (List ℕ) ℕ
 behind front (Ok bytes) = Ok (front ++ bytes)
 behind front (Err addr) = Err addr
-
--- a number of four bytes, the lowest first
-abbrev pub word_of : Result (List ℕ) ℕ → Result ℕ ℕ
-word_of (Ok bytes) = Ok (from_le_bytes w32 bytes)
-word_of (Err addr) = Err addr
-
-abbrev pub word_at : PageMap → ℕ → ℕ → Result ℕ ℕ
-word_at pages right addr = word_of (bytes_at pages right addr 4)
 
 -- a number of some bytes, the lowest first
 abbrev pub little : List ℕ → ℕ
