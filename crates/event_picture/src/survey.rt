@@ -1,5 +1,6 @@
 // What has to be known of all events before the first is drawn.
-ghost use Rattle.std.specs.Prelude.{◌≡◌, ◌≤◌, ◌<◌, ◌^◌, IfSome};
+ghost use Rattle.std.specs.Prelude.{◌≡◌, ◌≤◌, ◌<◌, IfSome};
+ghost use Rattle.call_table.specs.declared.limit.TheConstants.{NODES, LAST_LAUNCHED, STAMPS};
 
 use call_table::limit;
 use node_event::{Event, What};
@@ -16,9 +17,9 @@ pub struct Survey {
     pub first: u64,
     pub last: u64,
     ghost ordered: { first ≤ last },
-    ghost short: { last < 2 ^ 40 },
-    ghost few: { nodes ≤ 8 },
-    ghost known: { pids ≤ 32767 },
+    ghost short: { last < STAMPS },
+    ghost few: { nodes ≤ NODES },
+    ghost known: { pids ≤ LAST_LAUNCHED },
 }
 
 /// The greatest other node that an event names.
