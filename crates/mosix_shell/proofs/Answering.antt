@@ -200,18 +200,18 @@ module _ (policy : Policy) (chance : Stream) {S I O : Type 0} (settings : Settin
 
   -- ---- the script is refused
 
-  unread_cause : (why : Why) → IsUnread settings.nodes (told script) why → (why ≡ ReadFault → HasRisen script) → CauseOf settings script images why
-  unread_cause Done u f = absurd u
-  unread_cause Stuck u f = absurd u
-  unread_cause BadWords u f = absurd u
-  unread_cause (BadScript line kind) u f = u
-  unread_cause (BadImage line kind) u f = absurd u
-  unread_cause ReadFault u f = inl (f refl)
-  unread_cause WriteFault u f = absurd u
-  unread_cause NoMemory u f = tt
-  unread_cause (JournalFull node) u f = absurd u
-  unread_cause NotBuilt u f = absurd u
-  unread_cause (BadSource line kind) u f = absurd u
+  unread_cause : (why : Why) → IsUntouched images → IsUnread settings.nodes (told script) why → (why ≡ ReadFault → HasRisen script) → CauseOf settings script images why
+  unread_cause Done same u f = absurd u
+  unread_cause Stuck same u f = absurd u
+  unread_cause BadWords same u f = absurd u
+  unread_cause (BadScript line kind) same u f = (u, same)
+  unread_cause (BadImage line kind) same u f = absurd u
+  unread_cause ReadFault same u f = inl (f refl, same)
+  unread_cause WriteFault same u f = absurd u
+  unread_cause NoMemory same u f = tt
+  unread_cause (JournalFull node) same u f = absurd u
+  unread_cause NotBuilt same u f = absurd u
+  unread_cause (BadSource line kind) same u f = absurd u
 
   unread_complete : (why : Why) → IsUnread settings.nodes (told script) why → IsComplete settings (told script) (told images) why
   unread_complete Done u = absurd u
@@ -229,22 +229,22 @@ module _ (policy : Policy) (chance : Stream) {S I O : Type 0} (settings : Settin
   memory_tells : WritesLine sink (line_of NoMemory) → TellsNone policy chance settings script images sink NoMemory
   memory_tells w = record { causes = tt; printed = inl w }
 
-  unread_tells : (why shown : Why) → ((shown ≡ why) ⊎ (shown ≡ NoMemory)) → IsUnread settings.nodes (told script) why → (why ≡ ReadFault → HasRisen script) → WritesLine sink (line_of shown) → TellsNone policy chance settings script images sink shown
-  unread_tells why shown (inl e) u f w = record {
-    causes = unread_cause shown (subst (IsUnread settings.nodes (told script)) (sym e) u) (λ h. f (sym e ∙ h));
+  unread_tells : (why shown : Why) → IsUntouched images → ((shown ≡ why) ⊎ (shown ≡ NoMemory)) → IsUnread settings.nodes (told script) why → (why ≡ ReadFault → HasRisen script) → WritesLine sink (line_of shown) → TellsNone policy chance settings script images sink shown
+  unread_tells why shown same (inl e) u f w = record {
+    causes = unread_cause shown same (subst (IsUnread settings.nodes (told script)) (sym e) u) (λ h. f (sym e ∙ h));
     printed = writes_answer shown w;
   }
-  unread_tells why shown (inr e) u f w = subst (TellsNone policy chance settings script images sink) (sym e) (memory_tells (subst (λ y. WritesLine sink (line_of y)) e w))
+  unread_tells why shown same (inr e) u f w = subst (TellsNone policy chance settings script images sink) (sym e) (memory_tells (subst (λ y. WritesLine sink (line_of y)) e w))
 
   unread_follows : (why shown : Why) → ((shown ≡ why) ⊎ (shown ≡ NoMemory)) → IsUnread settings.nodes (told script) why → IsComplete settings (told script) (told images) shown
   unread_follows why shown (inl e) u = unread_complete shown (subst (IsUnread settings.nodes (told script)) (sym e) u)
   unread_follows why shown (inr e) u = subst (IsComplete settings (told script) (told images)) (sym e) (complete_free settings (told script) (told images) NoMemory (λ v. tt))
 
-  pub script_refused : (why : Why) (ended : Ended) → ended.run ≡ None → ((ended.why ≡ why) ⊎ (ended.why ≡ NoMemory)) → IsUnread settings.nodes (told script) why → (why ≡ ReadFault → HasRisen script)
+  pub script_refused : (why : Why) (ended : Ended) → IsUntouched images → ended.run ≡ None → ((ended.why ≡ why) ⊎ (ended.why ≡ NoMemory)) → IsUnread settings.nodes (told script) why → (why ≡ ReadFault → HasRisen script)
       → Reads (SCRIPT_BYTES + 1) (told script) (tells_now script) (cuts_short why) → WritesLine sink (line_of ended.why) → RunAnswers policy chance settings script images sink ended
-  script_refused why ended none is u f reads w = record {
-    tells = subst (λ o. Tells policy chance settings script images sink o ended.why) (sym none) (unread_tells why ended.why is u f w);
-    has_run = ap is_some none ∙ cause_has_run ended.why (unread_tells why ended.why is u f w).causes;
+  script_refused why ended same none is u f reads w = record {
+    tells = subst (λ o. Tells policy chance settings script images sink o ended.why) (sym none) (unread_tells why ended.why same is u f w);
+    has_run = ap is_some none ∙ cause_has_run ended.why (unread_tells why ended.why same is u f w).causes;
     completeness = unread_follows why ended.why is u;
     reads = still_read (SCRIPT_BYTES + 1) (told script) (tells_now script) why ended.why reads is;
   }
@@ -264,7 +264,7 @@ module _ (policy : Policy) (chance : Stream) {S I O : Type 0} (settings : Settin
   none_tells orders BadWords o r = absurd r
   none_tells orders (BadScript line kind) o r = absurd r
   none_tells orders (BadImage line kind) o r = record { causes = record { orders = orders; orders_are = o; refused = r.0 }; printed = r.1 }
-  none_tells orders ReadFault o r = record { causes = inr r.0; printed = r.1 }
+  none_tells orders ReadFault o r = record { causes = inr (record { orders = orders; orders_are = o; failed = r.0 }); printed = r.1 }
   none_tells orders WriteFault o r = absurd r
   none_tells orders NoMemory o r = record { causes = tt; printed = part_told orders o r }
   none_tells orders (JournalFull node) o r = absurd r

@@ -52,7 +52,7 @@ module _ (policy : Policy) (chance : Stream) {S I O : Type 0} (script : Seen S (
 
   tells_read : (settings : Settings) (o : Option Run) → Tells policy chance settings script images sink o ReadFault → HasRisen script ⊎ HasRisen images
   tells_read settings (Some run) t = reads_last run.last (sym t.printed.0)
-  tells_read settings None t = t.causes
+  tells_read settings None t = elim t.causes [ inl c ↦ inl c.0 | inr c ↦ inr c.failed ]
 
   tells_write : (settings : Settings) (o : Option Run) → Tells policy chance settings script images sink o WriteFault → HasRisen sink
   tells_write settings (Some run) t = front_rose sink (report_writes run t.orders settings.events) t.printed

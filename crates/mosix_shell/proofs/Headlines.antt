@@ -65,6 +65,7 @@ module _ (policy : Policy) (plan : Plan) (room : ℕ) (nodes : List Node) (run :
       world = over.world;
       carried = over.carried;
       holds = over.holds;
+      ending = over.ending;
       ended = subst (λ (x : Last). EndsAs policy plan room x (history policy plan run) over.ending.machine over.world) (sym tells.last_is) ends;
     }
 

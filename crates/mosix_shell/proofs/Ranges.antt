@@ -3,6 +3,7 @@ use Rattle.std.proofs.Common.{◌≡◌, ℕ, ◌≤◌, List, length, refl, sub
 use Rattle.std.specs.Prelude.{codes}
 use Rattle.std.specs.Str.Parse.{digits_value}
 use Rattle.std.proofs.lemmas.Bool.Decides.{nat_tests}
+use Rattle.call_table.specs.declared.limit.TheConstants.{NODES, LEAST_NODE_PAGES, NODE_PAGES, QUANTUM, JOURNAL}
 use Rattle.clap.specs.Words.{Text, Row, first_of, fault_of, matches_of}
 use Rattle.mosix_words.specs.Command.{the_app}
 use Rattle.mosix_words.specs.Numbers.{is_number, at_most, at_least, number_or}
@@ -35,7 +36,7 @@ abbrev InRange : Option Settings → Type 0
 InRange None = Unit {0}
 InRange (Some s) = IsInRange s
 
-all_within : (mode : Option Mode) (nodes pages quantum journal : Option ℕ) (seed : Option (Option ℕ)) (serial events : Bool) → Within 1 8 nodes → Within 16 65536 pages → Within 1 65536 quantum → Within 1 1048576 journal
+all_within : (mode : Option Mode) (nodes pages quantum journal : Option ℕ) (seed : Option (Option ℕ)) (serial events : Bool) → Within 1 NODES nodes → Within LEAST_NODE_PAGES NODE_PAGES pages → Within 1 QUANTUM quantum → Within 1 JOURNAL journal
     → InRange (settings mode nodes pages quantum journal seed serial events)
 all_within None nodes pages quantum journal seed serial events a b c d = tt
 all_within (Some mode) None pages quantum journal seed serial events a b c d = tt
@@ -48,10 +49,10 @@ all_within (Some mode) (Some nodes) (Some pages) (Some quantum) (Some journal) (
 
 rows_within : (rows : List Row) → InRange (settings_in rows)
 rows_within rows =
-    all_within (mode_in (first_of (codes "mode") rows)) (number_or 4 1 8 (first_of (codes "nodes") rows)) (number_or 4096 16 65536 (first_of (codes "pages") rows)) (number_or 16384 1 65536 (first_of (codes "quantum") rows))
-    (number_or 262144 1 1048576 (first_of (codes "journal") rows)) (seed_in (first_of (codes "seed") rows)) (is_set (first_of (codes "serial") rows)) (is_set (first_of (codes "events") rows))
-    (within 4 1 8 (first_of (codes "nodes") rows) (omega arith) (omega arith)) (within 4096 16 65536 (first_of (codes "pages") rows) (omega arith) (omega arith))
-    (within 16384 1 65536 (first_of (codes "quantum") rows) (omega arith) (omega arith)) (within 262144 1 1048576 (first_of (codes "journal") rows) (omega arith) (omega arith))
+    all_within (mode_in (first_of (codes "mode") rows)) (number_or 4 1 NODES (first_of (codes "nodes") rows)) (number_or 4096 LEAST_NODE_PAGES NODE_PAGES (first_of (codes "pages") rows)) (number_or 16384 1 QUANTUM (first_of (codes "quantum") rows))
+    (number_or 262144 1 JOURNAL (first_of (codes "journal") rows)) (seed_in (first_of (codes "seed") rows)) (is_set (first_of (codes "serial") rows)) (is_set (first_of (codes "events") rows))
+    (within 4 1 NODES (first_of (codes "nodes") rows) (omega arith) (omega arith)) (within 4096 LEAST_NODE_PAGES NODE_PAGES (first_of (codes "pages") rows) (omega arith) (omega arith))
+    (within 16384 1 QUANTUM (first_of (codes "quantum") rows) (omega arith) (omega arith)) (within 262144 1 JOURNAL (first_of (codes "journal") rows) (omega arith) (omega arith))
 
 taken_within : (b : Bool) (o : Option Settings) → InRange o → InRange (cond b o None)
 taken_within true o h = h

@@ -7,7 +7,7 @@ use Rattle.user_spec.specs.User.{UserState}
 use Rattle.shell_text.specs.Script.{script_of}
 use Rattle.shell_text.specs.declared.fault.ScriptError.{ScriptError}
 use Rattle.shell_text.specs.declared.fault.ScriptError.TheVariants as fault
-use Rattle.mosix_shell.specs.Told.{Seen, WhereTold, told, HasRisen}
+use Rattle.mosix_shell.specs.Told.{Seen, WhereTold, told, HasRisen, IsUntouched}
 use Rattle.mosix_shell.specs.Orders.{IsScriptOf, IsFaultOf}
 use Rattle.mosix_shell.specs.Images.{Refusal, runs_of, images_of, AreImagesOf, IsRefused}
 use Rattle.mosix_shell.specs.declared.why.Why.{Why}
@@ -26,11 +26,21 @@ pub record HasRefused (settings : Settings) (script : Option (List ℕ)) (files 
   pub orders_are : IsScriptOf settings.nodes script orders
   pub refused : IsRefused files (runs_of orders) line kind
 
+-- an image of a script without a fault could not be read
+pub record IsUnreadable {I : Type 0} (settings : Settings) (script : Option (List ℕ)) (images : Seen I (List NamedFile)) : Type 0 where
+  pub orders : List ScriptLine
+  pub orders_are : IsScriptOf settings.nodes script orders
+  pub failed : HasRisen images
+
+-- the script could not be read, and no image was
+abbrev pub IsScriptUnreadable : {S I : Type 0} → Seen S (List ℕ) → Seen I (List NamedFile) → Type 0
+IsScriptUnreadable script images = HasRisen script × IsUntouched images
+
 abbrev pub CauseOf : {S I : Type 0} → Settings → Seen S (List ℕ) → Seen I (List NamedFile) → Why → Type 0
-CauseOf settings script images (BadScript line kind) = IsFaultOf settings.nodes (told script) line kind
+CauseOf settings script images (BadScript line kind) = IsFaultOf settings.nodes (told script) line kind × IsUntouched images
 CauseOf settings script images (BadImage line kind) = HasRefused settings (told script) (told images) line kind
 CauseOf settings script images NotBuilt = ⊥
-CauseOf settings script images ReadFault = HasRisen script ⊎ HasRisen images
+CauseOf settings script images ReadFault = IsScriptUnreadable script images ⊎ IsUnreadable settings (told script) images
 CauseOf settings script images NoMemory = Unit {0}
 CauseOf settings script images BadWords = ⊥
 CauseOf settings script images (BadSource line kind) = ⊥

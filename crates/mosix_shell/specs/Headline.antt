@@ -14,6 +14,7 @@ use Rattle.run_laws.specs.OnePlace.{OnePlace}
 use Rattle.run_laws.specs.Grounds.{Grounded}
 use Rattle.run_laws.specs.Whole.{Holds}
 use Rattle.run_laws.specs.Due.{IsFull}
+use Rattle.run_laws.specs.Ending.{Ending}
 use Rattle.run_laws.specs.Ends.{status, status_cut, statuses_to, IsDone, IsStuck, AllSettled, SettledOrOpen}
 use Rattle.node_machine.specs.Plan.{Plan}
 use Rattle.node_machine.specs.Machine.{Policy, machine}
@@ -73,4 +74,6 @@ module _ (policy : Policy) (plan : Plan) where
     pub world : World (machine policy plan)
     pub carried : CarriedRun (machine policy plan) (history run) world
     pub holds : Holds (machine policy plan) (history run) world
+    -- what is due at its end, and who is blocked, by its events alone
+    pub ending : Ending (machine policy plan) (history run) world
     pub ended : EndsAs room run.last (history run) state world

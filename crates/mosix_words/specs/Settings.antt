@@ -1,6 +1,7 @@
 -- What the words ask for: they are words that the command takes, and each value is in its range.
 use Rattle.std.specs.Prelude.{ℕ, ◌-◌, ◌^◌, Bool, false, ◌==◌, List, length, Option, Some, None, codes, if◌then◌else◌}
 use Rattle.std.specs.Str.{bytes_eq}
+use Rattle.call_table.specs.declared.limit.TheConstants.{NODES, LEAST_NODE_PAGES, NODE_PAGES, QUANTUM, JOURNAL}
 use Rattle.clap.specs.Words.{Row, Text, matches_of, first_of, fault_of}
 use Rattle.mosix_words.specs.Command.{the_app}
 use Rattle.mosix_words.specs.Numbers.{number_in, number_or}
@@ -51,14 +52,14 @@ settings (Some mode) (Some nodes) (Some pages) (Some quantum) (Some journal) (So
   events = events;
 })
 
--- by the values that the command found: 1 to 8 nodes, 16 to 65,536 pages, 1 to 65,536 steps a turn, 1 to 1,048,576 events a journal
+-- by the values that the command found: each within the cluster's limit, or the default where no word stands for it
 abbrev pub settings_in : List Row → Option Settings
 settings_in rows =
     settings (mode_in (first_of (codes "mode") rows))
-    (number_or 4 1 8 (first_of (codes "nodes") rows))
-    (number_or 4096 16 65536 (first_of (codes "pages") rows))
-    (number_or 16384 1 65536 (first_of (codes "quantum") rows))
-    (number_or 262144 1 1048576 (first_of (codes "journal") rows))
+    (number_or 4 1 NODES (first_of (codes "nodes") rows))
+    (number_or 4096 LEAST_NODE_PAGES NODE_PAGES (first_of (codes "pages") rows))
+    (number_or 16384 1 QUANTUM (first_of (codes "quantum") rows))
+    (number_or 262144 1 JOURNAL (first_of (codes "journal") rows))
     (seed_in (first_of (codes "seed") rows))
     (is_set (first_of (codes "serial") rows))
     (is_set (first_of (codes "events") rows))

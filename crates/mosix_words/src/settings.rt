@@ -48,24 +48,16 @@ pub enum WordsError {
     NoMemory,
 }
 
-/// Pages of a node.
-const LEAST_PAGES: u32 = 16;
-
-const MOST_PAGES: u32 = 65_536;
-
-const PAGES: u32 = 4096;
-
 /// Nodes, where the words name no number of them.
 const NODES: u32 = 4;
 
-/// Steps of a turn.
-const MOST_STEPS: u32 = 65_536;
+/// Pages of a node, likewise.
+const PAGES: u32 = 4096;
 
+/// Steps of a turn, likewise.
 const STEPS: u32 = 16_384;
 
-/// Events of a journal.
-const MOST_EVENTS: u32 = 1_048_576;
-
+/// Events of a journal, likewise.
 const EVENTS: u32 = 262_144;
 
 fn mode_named(name: &str) -> Option<Mode>
@@ -133,15 +125,15 @@ fn settings_in(matches: &ArgMatches) -> Option<Settings>
         return None;
     };
     let pages = value_of(matches, "pages");
-    let Some(pages) = number_or(PAGES, LEAST_PAGES, MOST_PAGES, pages) else {
+    let Some(pages) = number_or(PAGES, limit::LEAST_NODE_PAGES, limit::NODE_PAGES, pages) else {
         return None;
     };
     let quantum = value_of(matches, "quantum");
-    let Some(quantum) = number_or(STEPS, 1, MOST_STEPS, quantum) else {
+    let Some(quantum) = number_or(STEPS, 1, limit::QUANTUM, quantum) else {
         return None;
     };
     let journal = value_of(matches, "journal");
-    let Some(journal) = number_or(EVENTS, 1, MOST_EVENTS, journal) else {
+    let Some(journal) = number_or(EVENTS, 1, limit::JOURNAL, journal) else {
         return None;
     };
     let Some(seed) = seed_in(value_of(matches, "seed")) else {
