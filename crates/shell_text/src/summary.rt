@@ -1,5 +1,5 @@
 // The summary of a run, printed a line at a time.
-ghost use Rattle.std.specs.Prelude.{◌≡◌, ℕ, List, [], ◌∷◌, IfOk};
+ghost use Rattle.std.specs.Prelude.{◌≡◌, ℕ, List, [], ◌∷◌, length, IfOk};
 ghost use Rattle.shell_text.specs.Printing.{Prints};
 ghost use Rattle.shell_text.specs.Summary.{code_of, code_sum, is_land, land_count, count_line, process_writes, output_writes, close_writes, summary_writes};
 
@@ -88,16 +88,11 @@ fn print_processes<O: Sink>(
 }
 
 /// Prints how many bytes the terminal got, and how many files have a name.
-fn print_output<O: Sink>(
-    alloc: Global,
-    bytes: usize,
-    files: usize,
-    out: &mut O,
-) -> Result<(), PrintFault>
-    ensures { Prints O.written O.faults (output_writes bytes files) out.old out.new result }
+fn print_output<O: Sink>(alloc: Global, run: &Run, out: &mut O) -> Result<(), PrintFault>
+    ensures { Prints O.written O.faults (output_writes (length run.now.terminal) (length run.now.files)) out.old out.new result }
 {
-    let bytes = count_line(alloc, "bytes", bytes as u128);
-    let files = count_line(alloc, "files", files as u128);
+    let bytes = count_line(alloc, "bytes", run.terminal.len() as u128);
+    let files = count_line(alloc, "files", run.files.len() as u128);
     match print_two(out, bytes, files) {
         Ok(()) => Ok(()),
         Err(e) => Err(e),
@@ -132,7 +127,7 @@ pub fn print_summary<O: Sink>(alloc: Global, run: &Run, out: &mut O) -> Result<(
         Ok(()) => {}
         Err(e) => return Err(e),
     }
-    match print_output(alloc, run.terminal.len(), run.files.len(), out) {
+    match print_output(alloc, run, out) {
         Ok(()) => {}
         Err(e) => return Err(e),
     }
