@@ -8,3 +8,4 @@ pub mod Outcomes
 pub mod Printing
 pub mod Report
 pub mod Script
+pub mod Summary

@@ -11,12 +11,14 @@ mod outcome;
 mod report;
 mod run;
 mod script;
+mod summary;
 mod writing;
 
 pub use fault::{FaultKind, ScriptError};
 pub use report::print_report;
 pub use run::{Last, Run};
 pub use script::read_script;
+pub use summary::print_summary;
 pub use writing::{PrintFault, write_bytes};
 
 #[cfg(test)]

@@ -51,7 +51,7 @@ fn file_line(alloc: Global, file: &Named) -> Result<Bytes, NoMemory>
     Ok(line)
 }
 
-fn last_line(alloc: Global, last: Last) -> Result<Bytes, NoMemory>
+pub fn last_line(alloc: Global, last: Last) -> Result<Bytes, NoMemory>
     ensures { IfOk result (λ b. b ≡ last_line last) }
 {
     let line = match last {

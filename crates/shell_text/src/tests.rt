@@ -325,3 +325,27 @@ fn a_call_for_each_write(rt: HostRuntime) -> Result<(), Fail> {
     }
     Ok(())
 }
+
+const SUMMARY: &[u8] = b"processes 6\nexits 300\nbytes 3\nfiles 1\nmoves 1\nfull 0\n";
+
+/// The summary of the run with two processes more, on a sink that fails at a call, or at none, and whether all was printed.
+fn summed(alloc: Global, fails: u64) -> Result<(MemSink, bool), NoMemory> {
+    let mut run = run_of(alloc)?;
+    run.statuses.push((5, PidState::Exit(200)))?;
+    run.statuses.push((6, PidState::Exit(100)))?;
+    let mut calls = Calls::new(alloc);
+    calls.push(fails)?;
+    let mut out = MemSink::new(alloc, calls, 4096)?;
+    let is_done = print_summary(alloc, &run, &mut out).is_ok();
+    Ok((out, is_done))
+}
+
+#[test]
+fn summary(rt: HostRuntime) -> Result<(), Fail> {
+    for (fails, count) in [(0, 53), (1, 0), (3, 22)] {
+        let (out, is_done) = summed(rt.alloc(), fails)?;
+        assert!(rt; is_done == (fails == 0));
+        assert!(rt; out.bytes() == &SUMMARY[..count], "at call {fails}");
+    }
+    Ok(())
+}
