@@ -88,14 +88,19 @@ FILE *const stdin = &input.xfile.cfile.file;
 FILE *const stdout = &output.xfile.cfile.file;
 FILE *const stderr = &errors.xfile.cfile.file;
 
+static void flush(void)
+{
+    fflush(stdout);
+    fflush(stderr);
+}
+
 extern int main(int count, char **words);
 extern void __libc_init_array(void);
 
+/* What the streams of the terminal still hold is written by exit, wherever that is called. */
 _Noreturn void mosix_main(int count, char **words)
 {
     __libc_init_array();
-    int code = main(count, words);
-    fflush(stdout);
-    fflush(stderr);
-    exit(code);
+    atexit(flush);
+    exit(main(count, words));
 }

@@ -43,7 +43,7 @@ int main(void)
     int file = mosix_open("log", 3, MOSIX_READ | MOSIX_WRITE | MOSIX_CREATE);
 
     for (int i = 0; i < BYTES; i++)
-        memory[i] = i * i % 251;
+        memory[i] = i ^ i >> 8;
     if (file < 0 || mosix_write(file, note, sizeof note - 1) != sizeof note - 1)
         return 1;
     before = look(file);
