@@ -16,18 +16,14 @@ top=$(cd "$(dirname "$0")/.." && pwd)
 work=$(mktemp -d)
 trap 'rm -rf "$work"' EXIT
 
-# the least of some runs, in seconds
+# the least of some runs, in processor seconds
 seconds() {
-    local least=
+    local least='' took TIMEFORMAT='%U %S'
     for _ in $(seq "$tries"); do
-        local start end took
-        start=$(date +%s%N)
-        "$@" >"$work/last"
-        end=$(date +%s%N)
-        took=$((end - start))
-        if [ -z "$least" ] || [ "$took" -lt "$least" ]; then least=$took; fi
+        took=$({ time "$@" >"$work/last"; } 2>&1 | awk '{ printf "%.3f", $1 + $2 }')
+        if [ -z "$least" ] || awk -v a="$took" -v b="$least" 'BEGIN { exit !(a < b) }'; then least=$took; fi
     done
-    awk -v t="$least" 'BEGIN { printf "%.3f", t / 1e9 }'
+    echo "$least"
 }
 
 (cd "$top/crates/bench_pages" && rt run -- 1000 >"$work/build" 2>&1) || { cat "$work/build"; exit 1; }
