@@ -1,0 +1,4 @@
+pub mod DrawLemmas
+pub mod LineLemmas
+pub mod ImageLemmas
+pub mod TextLemmas
