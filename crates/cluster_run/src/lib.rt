@@ -13,6 +13,7 @@ mod seats;
 mod serial;
 mod side;
 mod still;
+mod threads;
 
 pub use meeting::{meet_self, meet_sides};
 pub use over::{Nodes, Over, OverWhy};
@@ -20,3 +21,4 @@ pub use seat::{Rest, Seat};
 pub use seats::{meet_all, meet_row};
 pub use serial::run_serial;
 pub use side::{hand, look};
+pub use threads::run_threads;

@@ -1,16 +1,22 @@
 // The simulated cluster: reads its words and standard input, and ends with the status of the run.
 #![tactic(auto)]
 
+ghost use Rattle.mosix_words.specs.Settings.{settings_of};
+ghost use Rattle.mosix_shell.specs.Told.{seen};
+ghost use Rattle.mosixsim.specs.Exits.{Exits};
+
 use call_table::{NoMemory, Text, Words};
 use mosix_shell::status;
 use mosix_shell::usher::mosix_usher;
-use outside::{FileImages, StdSink, StdSource};
+use outside::{FileImages, Gate, Images, Sink, Source, StdSink, StdSource, YieldGate};
 use rand_core::SeedableRng;
 use rand_pcg::Pcg32;
 use std::alloc::Global;
 use std::io::ErrorKind;
 use std::process::ExitCode;
 use std::rt::Env;
+use std::sync::Wait;
+use std::thread::Threads;
 use std::{env, io};
 
 /// The seed of the words of chance, where the program's words give none.
@@ -31,6 +37,23 @@ fn words<R: Env + AllocGlobal>(rt: &R) -> Result<Words, NoMemory> {
     Ok(words)
 }
 
+/// All that the program does, over any outside: the status by which it ends.
+fn status_by<T: Threads + Wait + Sync, S: Source, I: Images, O: Sink, G: Gate + Sync>(
+    rt: &T,
+    alloc: Global,
+    words: &Words,
+    script: &mut S,
+    images: &mut I,
+    out: &mut O,
+    gate: &G,
+) -> u8
+    ensures { Exits (settings_of words.now) (seen S.left S.faults script.old script.new) (seen I.files I.faults images.old images.new) (seen O.written O.faults out.old out.new) result }
+{
+    let mut rng = Pcg32::seed_from_u64(SEED);
+    let ended = mosix_usher(rt, alloc, words, script, images, out, &mut rng, gate);
+    ended.status
+}
+
 fn main(rt: HostRuntime) -> ExitCode {
     let alloc = rt.alloc();
     let Ok(words) = words(&rt) else {
@@ -39,7 +62,15 @@ fn main(rt: HostRuntime) -> ExitCode {
     let mut source = StdSource::new(rt.reader());
     let mut images = FileImages::new(rt.clone().unwrap());
     let mut sink = StdSink::new(io::writer(&rt));
-    let mut rng = Pcg32::seed_from_u64(SEED);
-    let ended = mosix_usher(alloc, &words, &mut source, &mut images, &mut sink, &mut rng);
-    ExitCode::from(ended.status)
+    let gate = YieldGate::new(rt.clone().unwrap());
+    let status = status_by(
+        &rt,
+        alloc,
+        &words,
+        &mut source,
+        &mut images,
+        &mut sink,
+        &gate,
+    );
+    ExitCode::from(status)
 }
