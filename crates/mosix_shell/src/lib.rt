@@ -9,6 +9,7 @@ mod left;
 pub mod mosix;
 pub mod orders;
 pub mod reading;
+pub mod runner;
 pub mod stage;
 pub mod status;
 pub mod usher;

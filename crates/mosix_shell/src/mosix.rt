@@ -15,16 +15,19 @@ ghost use Rattle.mosix_shell.specs.Parts.{IsRunFrom, IsUnrun, IsTold, TellsOrder
 use crate::assembling::assemble_source;
 use crate::images::load_users;
 use crate::orders::read_orders;
+use crate::runner::{OneThread, OwnThreads, Runner};
 use crate::stage::run_users;
 use crate::why::{Why, line_of, status_of, why_of_last};
 use call_table::Words;
 use mosix_words::{Mode, Settings, WordsError, mode_of};
 use node_event::Script;
-use outside::{Images, Sink, Source};
+use outside::{Gate, Images, Sink, Source};
 use policy_box::{Chooser, Policy};
 use rand_core::Rng;
 use shell_text::{PrintFault, Run, print_report, write_bytes};
 use std::alloc::Global;
+use std::sync::Wait;
+use std::thread::Threads;
 
 /// What the call answers. A run is there exactly where one was made to its end and its report was written or failed to be:
 /// at `Done`, `Stuck`, `JournalFull` and `WriteFault` of mode `run`.
@@ -66,13 +69,14 @@ fn refuse<O: Sink>(alloc: Global, out: &mut O, why: Why) -> Ended
 // ---- mode `run`
 
 /// The run of a script's orders.
-fn run_of<I: Images, R: Rng, P: Chooser>(
+fn run_of<I: Images, R: Rng, P: Chooser + Sync, U: Runner>(
     alloc: Global,
     settings: &Settings,
     orders: &Script,
     images: &mut I,
     rng: &mut R,
     policy: &Policy<P>,
+    runner: &U,
 ) -> Result<Run, Why>
     requires fit { FitStacks orders.now }
     requires range { IsInRange settings.now }
@@ -85,7 +89,7 @@ fn run_of<I: Images, R: Rng, P: Chooser>(
         Ok(users) => users,
         Err(why) => return Err(why),
     };
-    match run_users(alloc, settings, orders, users, rng, policy) {
+    match run_users(alloc, settings, orders, users, rng, policy, runner) {
         Ok(run) => Ok(run),
         Err(_) => Err(Why::NoMemory),
     }
@@ -110,7 +114,7 @@ fn tell<O: Sink>(
 }
 
 /// Runs a script's orders and writes the report.
-fn run_orders<I: Images, O: Sink, R: Rng, P: Chooser>(
+fn run_orders<I: Images, O: Sink, R: Rng, P: Chooser + Sync, U: Runner>(
     alloc: Global,
     settings: &Settings,
     orders: &Script,
@@ -118,6 +122,7 @@ fn run_orders<I: Images, O: Sink, R: Rng, P: Chooser>(
     out: &mut O,
     rng: &mut R,
     policy: &Policy<P>,
+    runner: &U,
 ) -> Ended
     requires fit { FitStacks orders.now }
     requires range { IsInRange settings.now }
@@ -125,14 +130,14 @@ fn run_orders<I: Images, O: Sink, R: Rng, P: Chooser>(
     ensures status { result.status ≡ status_of result.why }
     ensures tells { TellsOrders (given_by (P.answers policy.now)) (R.stream rng.old) settings.now orders.now (seen I.files I.faults images.old images.new) (seen O.written O.faults out.old out.new) result.run result.why }
 {
-    match run_of(alloc, settings, orders, images, rng, policy) {
+    match run_of(alloc, settings, orders, images, rng, policy, runner) {
         Ok(run) => tell(alloc, settings, orders, run, out),
         Err(why) => refuse(alloc, out, why),
     }
 }
 
 /// Mode `run`: from the script to the report.
-fn run_script<S: Source, I: Images, O: Sink, R: Rng, P: Chooser>(
+fn run_script<S: Source, I: Images, O: Sink, R: Rng, P: Chooser + Sync, U: Runner>(
     alloc: Global,
     settings: &Settings,
     script: &mut S,
@@ -140,13 +145,14 @@ fn run_script<S: Source, I: Images, O: Sink, R: Rng, P: Chooser>(
     out: &mut O,
     rng: &mut R,
     policy: &Policy<P>,
+    runner: &U,
 ) -> Ended
     requires { IsInRange settings.now }
     ensures status { result.status ≡ status_of result.why }
     ensures answers { RunAnswers (given_by (P.answers policy.now)) (R.stream rng.old) settings.now (seen S.left S.faults script.old script.new) (seen I.files I.faults images.old images.new) (seen O.written O.faults out.old out.new) result }
 {
     match read_orders(alloc, script, settings.nodes) {
-        Ok(orders) => run_orders(alloc, settings, &orders, images, out, rng, policy),
+        Ok(orders) => run_orders(alloc, settings, &orders, images, out, rng, policy, runner),
         Err(why) => refuse(alloc, out, why),
     }
 }
@@ -176,7 +182,7 @@ fn assemble_script<S: Source, I: Images, O: Sink>(
 // ---- all modes
 
 /// What the words ask for.
-fn run_settings<S: Source, I: Images, O: Sink, R: Rng, P: Chooser>(
+fn run_settings<S: Source, I: Images, O: Sink, R: Rng, P: Chooser + Sync, U: Runner>(
     alloc: Global,
     settings: &Settings,
     script: &mut S,
@@ -184,21 +190,48 @@ fn run_settings<S: Source, I: Images, O: Sink, R: Rng, P: Chooser>(
     out: &mut O,
     rng: &mut R,
     policy: &Policy<P>,
+    runner: &U,
 ) -> Ended
     requires { IsInRange settings.now }
     ensures status { result.status ≡ status_of result.why }
     ensures answers { AnswersIn (given_by (P.answers policy.now)) (R.stream rng.old) settings.now.mode settings.now (seen S.left S.faults script.old script.new) (seen I.files I.faults images.old images.new) (seen O.written O.faults out.old out.new) result }
 {
     match settings.mode {
-        Mode::Run => run_script(alloc, settings, script, images, out, rng, policy),
+        Mode::Run => run_script(alloc, settings, script, images, out, rng, policy, runner),
         Mode::Asm => assemble_script(alloc, script, images, out),
         Mode::Gen => refuse(alloc, out, Why::NotBuilt),
     }
 }
 
-/// All that the program does, by its words without its own name. A run's moves are chosen by the policy, and its words of chance come from the seed that the
-/// words give, else from `rng`.
-pub fn mosix<S: Source, I: Images, O: Sink, R: Rng, P: Chooser>(
+/// What the words ask for, or their refusal.
+fn answer_words<S: Source, I: Images, O: Sink, R: Rng, P: Chooser + Sync, U: Runner>(
+    alloc: Global,
+    words: &Words,
+    script: &mut S,
+    images: &mut I,
+    out: &mut O,
+    rng: &mut R,
+    policy: &Policy<P>,
+    runner: &U,
+) -> Ended
+    ensures status { result.status ≡ status_of result.why }
+    // What each mode promises, and words of no mode: `RunAnswers`, `AsmAnswers`, `Refuses`.
+    ensures answers { Answers (given_by (P.answers policy.now)) (R.stream rng.old) (settings_of words.now) (seen S.left S.faults script.old script.new) (seen I.files I.faults images.old images.new) (seen O.written O.faults out.old out.new) result }
+
+    // A fault of reading or writing has its cause.
+    ensures read { result.why ≡ Why.ReadFault → Rose (S.faults script.old) (S.faults script.new) ⊎ Rose (I.faults images.old) (I.faults images.new) }
+    ensures write { result.why ≡ Why.WriteFault → Rose (O.faults out.old) (O.faults out.new) }
+{
+    match mode_of(alloc, words) {
+        Ok(settings) => run_settings(alloc, &settings, script, images, out, rng, policy, runner),
+        Err(WordsError::BadWords) => refuse(alloc, out, Why::BadWords),
+        Err(WordsError::NoMemory) => answer(Why::NoMemory, None),
+    }
+}
+
+/// All that the program does, by its words without its own name, where one thread makes all turns of a run. It returns whatever the words are.
+/// A run's moves are chosen by the policy, and its words of chance come from the seed that the words give, else from `rng`.
+pub fn mosix_serial<S: Source, I: Images, O: Sink, R: Rng, P: Chooser + Sync>(
     alloc: Global,
     words: &Words,
     script: &mut S,
@@ -215,9 +248,40 @@ pub fn mosix<S: Source, I: Images, O: Sink, R: Rng, P: Chooser>(
     ensures read { result.why ≡ Why.ReadFault → Rose (S.faults script.old) (S.faults script.new) ⊎ Rose (I.faults images.old) (I.faults images.new) }
     ensures write { result.why ≡ Why.WriteFault → Rose (O.faults out.old) (O.faults out.new) }
 {
-    match mode_of(alloc, words) {
-        Ok(settings) => run_settings(alloc, &settings, script, images, out, rng, policy),
-        Err(WordsError::BadWords) => refuse(alloc, out, Why::BadWords),
-        Err(WordsError::NoMemory) => answer(Why::NoMemory, None),
-    }
+    let ended = answer_words(alloc, words, script, images, out, rng, policy, &OneThread);
+    ended
+}
+
+/// The same, where each node of a run makes its turns on a thread of its own, unless the words ask for one thread. The gate is called before each turn
+/// on a thread. It may wait, so that it returns is not promised.
+pub fn mosix<
+    T: Threads + Wait + Sync,
+    S: Source,
+    I: Images,
+    O: Sink,
+    R: Rng,
+    G: Gate + Sync,
+    P: Chooser + Sync,
+>(
+    rt: &T,
+    alloc: Global,
+    words: &Words,
+    script: &mut S,
+    images: &mut I,
+    out: &mut O,
+    rng: &mut R,
+    gate: &G,
+    policy: &Policy<P>,
+) -> Ended
+    ensures status { result.status ≡ status_of result.why }
+    // What each mode promises, and words of no mode: `RunAnswers`, `AsmAnswers`, `Refuses`.
+    ensures answers { Answers (given_by (P.answers policy.now)) (R.stream rng.old) (settings_of words.now) (seen S.left S.faults script.old script.new) (seen I.files I.faults images.old images.new) (seen O.written O.faults out.old out.new) result }
+
+    // A fault of reading or writing has its cause.
+    ensures read { result.why ≡ Why.ReadFault → Rose (S.faults script.old) (S.faults script.new) ⊎ Rose (I.faults images.old) (I.faults images.new) }
+    ensures write { result.why ≡ Why.WriteFault → Rose (O.faults out.old) (O.faults out.new) }
+{
+    let runner = OwnThreads { rt, gate };
+    let ended = answer_words(alloc, words, script, images, out, rng, policy, &runner);
+    ended
 }

@@ -10,8 +10,9 @@ ghost use Rattle.mosix_shell.specs.Ranges.{IsInRange};
 use crate::chance::seeds_of;
 use crate::copying::copied_script;
 use crate::left::told_by;
+use crate::runner::Runner;
 use call_table::NoMemory;
-use cluster_run::{Nodes, OverWhy, run_serial};
+use cluster_run::{Nodes, OverWhy};
 use mosix_words::Settings;
 use node_core::{Node, Plan, Shape};
 use node_event::{Script, ScriptLine};
@@ -87,11 +88,12 @@ fn staged<R: Rng>(
 }
 
 /// The run of nodes that have done nothing, to what they tell at its end.
-fn played<P: Chooser>(
+fn played<P: Chooser + Sync, U: Runner>(
     alloc: Global,
     settings: &Settings,
     nodes: Nodes,
     policy: &Policy<P>,
+    runner: &U,
 ) -> Result<Run, NoMemory>
     requires range { IsInRange settings.now }
     requires count { length nodes ≡ settings.now.nodes }
@@ -100,26 +102,27 @@ fn played<P: Chooser>(
 {
     policy.is_fitting();
     let carriers = ring_carriers(alloc, settings.nodes)?;
-    let over = run_serial(alloc, nodes, carriers, policy)?;
+    let over = runner.run(alloc, nodes, carriers, policy, settings.serial)?;
     let last = last_of(over.why);
     let told = told_by(alloc, last, over.nodes)?;
     Ok(told)
 }
 
 /// A run of orders by the processes of their `run` lines.
-pub fn run_users<R: Rng, P: Chooser>(
+pub fn run_users<R: Rng, P: Chooser + Sync, U: Runner>(
     alloc: Global,
     settings: &Settings,
     orders: &Script,
     users: Users,
     rng: &mut R,
     policy: &Policy<P>,
+    runner: &U,
 ) -> Result<Run, NoMemory>
     requires range { IsInRange settings.now }
     requires plan { IsPlan (plan_of (R.stream rng.old) settings.now orders.now users) }
     ensures { IfOk result (IsRun (given_by (P.answers policy.now)) (R.stream rng.old) settings.now orders.now users) }
 {
     let nodes = staged(alloc, settings, orders.as_slice(), users, rng)?;
-    let whole = played(alloc, settings, nodes, policy)?;
+    let whole = played(alloc, settings, nodes, policy, runner)?;
     Ok(whole)
 }

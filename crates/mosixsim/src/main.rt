@@ -8,13 +8,15 @@ ghost use Rattle.mosixsim.specs.Exits.{Exits};
 use call_table::{NoMemory, Text, Words};
 use mosix_shell::status;
 use mosix_shell::usher::mosix_usher;
-use outside::{FileImages, Images, Sink, Source, StdSink, StdSource};
+use outside::{FileImages, Gate, Images, Sink, Source, StdSink, StdSource, YieldGate};
 use rand_core::SeedableRng;
 use rand_pcg::Pcg32;
 use std::alloc::Global;
 use std::io::ErrorKind;
 use std::process::ExitCode;
 use std::rt::Env;
+use std::sync::Wait;
+use std::thread::Threads;
 use std::{env, io};
 
 /// The seed of the words of chance, where the program's words give none.
@@ -36,17 +38,19 @@ fn words<R: Env + AllocGlobal>(rt: &R) -> Result<Words, NoMemory> {
 }
 
 /// All that the program does, over any outside: the status by which it ends.
-fn status_by<S: Source, I: Images, O: Sink>(
+fn status_by<T: Threads + Wait + Sync, S: Source, I: Images, O: Sink, G: Gate + Sync>(
+    rt: &T,
     alloc: Global,
     words: &Words,
     script: &mut S,
     images: &mut I,
     out: &mut O,
+    gate: &G,
 ) -> u8
     ensures { Exits (settings_of words.now) (seen S.left S.faults script.old script.new) (seen I.files I.faults images.old images.new) (seen O.written O.faults out.old out.new) result }
 {
     let mut rng = Pcg32::seed_from_u64(SEED);
-    let ended = mosix_usher(alloc, words, script, images, out, &mut rng);
+    let ended = mosix_usher(rt, alloc, words, script, images, out, &mut rng, gate);
     ended.status
 }
 
@@ -58,6 +62,15 @@ fn main(rt: HostRuntime) -> ExitCode {
     let mut source = StdSource::new(rt.reader());
     let mut images = FileImages::new(rt.clone().unwrap());
     let mut sink = StdSink::new(io::writer(&rt));
-    let status = status_by(alloc, &words, &mut source, &mut images, &mut sink);
+    let gate = YieldGate::new(rt.clone().unwrap());
+    let status = status_by(
+        &rt,
+        alloc,
+        &words,
+        &mut source,
+        &mut images,
+        &mut sink,
+        &gate,
+    );
     ExitCode::from(status)
 }
