@@ -199,7 +199,7 @@ module _ (policy : Policy) (plan : Plan) {C : Type 0} (puts gives : C → List L
   -- ---- the stop
 
   -- the letter in hand at node k
-  record HandAt (room at k : ℕ) (xs : List (Seat Node C)) : Type 0 where
+  pub record HandAt (room at k : ℕ) (xs : List (Seat Node C)) : Type 0 where
     pub hand : Option Letter
     pub lives : (s : Seat Node C) → slice_get xs k ≡ Some s → LivesAt policy plan puts gives room k hand s
     pub none : slice_get xs k ≡ None → hand ≡ None
@@ -246,7 +246,7 @@ module _ (policy : Policy) (plan : Plan) {C : Type 0} (puts gives : C → List L
       hand_of (inl x) = hand_from x.1 (k == at) refl
       hand_of (inr x) = let less = x.1 in hand_ready (λ same. absurd (omega (arith, same, less))) (some.below k s less is)
 
-    hand_at : (k : ℕ) → HandAt room at k xs
+    pub hand_at : (k : ℕ) → HandAt room at k xs
     hand_at k = go (slice_get xs k) refl
       where
         go : (o : Option (Seat Node C)) → slice_get xs k ≡ o → HandAt room at k xs

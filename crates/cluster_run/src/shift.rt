@@ -44,10 +44,10 @@ impl<C: Carrier> Seat<Node, C> {
             }
             gate.turn(self.node.id(), idle > 0);
             let rest = self.round(alloc, nodes, policy)?;
-            if rest == Rest::Full {
-                return Ok(());
+            match rest {
+                Rest::Full => return Ok(()),
+                _ => idle = if is_rest(rest) { idle.saturating_add(1) } else { 0 },
             }
-            idle = if is_rest(rest) { idle + 1 } else { 0 };
         }
         Ok(())
     }

@@ -10,7 +10,7 @@ pub loop-init : goal.loop-init
 loop-init g c = pass_none g.C.Carrier.puts g.C.Carrier.gives g.C.Carrier.pair (given_by (g.P.Chooser.answers c.args.policy.now)) c.args.nodes c.args.seats.now
 
 pub shift-requires-clause-linked : goal.shift-requires-clause-linked
-shift-requires-clause-linked g c = linked_sides g.C.Carrier.pair c.args.seats.now c.loop.seats c.loop.invariant.sides c.requires.linked
+shift-requires-clause-linked g c = λ w. linked_sides g.C.Carrier.pair c.args.seats.now c.loop.seats c.loop.invariant.sides c.requires.linked
 
 pub over_after-requires-clause-within : goal.over_after-requires-clause-within
 over_after-requires-clause-within g c = within_passed (given_by (g.P.Chooser.answers c.args.policy.now)) g.C.Carrier.puts g.C.Carrier.gives g.C.Carrier.pair c.args.nodes c.in_ok-passed.passed c.loop.seats c.shift.new.seats c.in_ok-passed.ensures
@@ -18,9 +18,9 @@ over_after-requires-clause-within g c = within_passed (given_by (g.P.Chooser.ans
 pub over_after-requires-clause-linked : goal.over_after-requires-clause-linked
 over_after-requires-clause-linked g c = linked_sides g.C.Carrier.pair c.args.seats.now c.shift.new.seats (sides_then g.C.Carrier.pair c.args.seats.now c.loop.seats c.shift.new.seats c.loop.invariant.sides c.in_ok-passed.ensures.sides) c.requires.linked
 
-pub returns-in-Some : goal.returns-in-Some
-returns-in-Some g c = over_then (given_by (g.P.Chooser.answers c.args.policy.now)) g.C.Carrier.puts g.C.Carrier.gives g.C.Carrier.pair c.args.nodes c.in_ok-passed.passed c.args.seats.now c.loop.seats c.shift.new.seats c.over_after.new.seats c.loop.invariant c.in_ok-passed.ensures c.in-Some.why c.requires.nodes
-    (subst (λ (o : Option OverWhy). OverAfter (given_by (g.P.Chooser.answers c.args.policy.now)) g.C.Carrier.puts g.C.Carrier.gives g.C.Carrier.pair c.args.nodes c.in_ok-passed.passed o c.shift.new.seats c.over_after.new.seats) c.in-Some.is c.in_ok-over.ensures)
+pub returns-in-Some-over : goal.returns-in-Some-over
+returns-in-Some-over g c = over_then (given_by (g.P.Chooser.answers c.args.policy.now)) g.C.Carrier.puts g.C.Carrier.gives g.C.Carrier.pair c.args.nodes c.in_ok-passed.passed c.args.seats.now c.loop.seats c.shift.new.seats c.over_after.new.seats c.loop.invariant c.in_ok-passed.ensures c.in-Some-over.why c.requires.nodes
+    (subst (λ (o : Option OverWhy). OverAfter (given_by (g.P.Chooser.answers c.args.policy.now)) g.C.Carrier.puts g.C.Carrier.gives g.C.Carrier.pair c.args.nodes c.in_ok-passed.passed o c.shift.new.seats c.over_after.new.seats) c.in-Some-over.is c.in_ok-over.ensures)
 
 pub loop-preserved : goal.loop-preserved
 loop-preserved g c = goes_on (given_by (g.P.Chooser.answers c.args.policy.now)) g.C.Carrier.puts g.C.Carrier.gives g.C.Carrier.pair c.args.nodes c.in_ok-passed.passed c.args.seats.now c.loop.seats c.shift.new.seats c.over_after.new.seats c.loop.invariant c.in_ok-passed.ensures
