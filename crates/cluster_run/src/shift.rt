@@ -46,20 +46,18 @@ impl<C: Carrier> Seat<Node, C> {
             let rest = self.round(alloc, nodes, policy)?;
             match rest {
                 Rest::Full => return Ok(()),
-                _ => idle = if is_rest(rest) { idle.saturating_add(1) } else { 0 },
+                _ => idle = if is_rest(rest) {
+                    idle.saturating_add(1)
+                } else {
+                    0
+                },
             }
         }
         Ok(())
     }
 
     /// A shift of this seat. It keeps whether memory was wanting.
-    fn shift<G: Gate, P: Chooser>(
-        &mut self,
-        alloc: Global,
-        nodes: u8,
-        gate: &G,
-        policy: &Policy<P>,
-    )
+    fn shift<G: Gate, P: Chooser>(&mut self, alloc: Global, nodes: u8, gate: &G, policy: &Policy<P>)
         ensures { self.new.failed ≡ false → Shifted (given_by (P.answers policy.now)) C.puts C.gives C.pair self.old self.new }
     {
         match self.work(alloc, nodes, gate, policy) {
@@ -81,9 +79,12 @@ fn work_all<R: Threads + Sync, C: Carrier + Send, G: Gate + Sync, P: Chooser + S
     requires some { 1 ≤ nodes }
     ensures { (i : ℕ) (d : Seat Node C) → i < length seats.old → (slice_index_or seats.new i d).failed ≡ false → Shifted (given_by (P.answers policy.now)) C.puts C.gives C.pair (slice_index_or seats.old i d) (slice_index_or seats.new i d) }
 {
-    thread::for_each_mut(rt, seats, nodes as usize, &|_, seat| {
-        seat.shift(alloc, nodes, gate, policy)
-    });
+    thread::for_each_mut(
+        rt,
+        seats,
+        nodes as usize,
+        &|_, seat| { seat.shift(alloc, nodes, gate, policy) },
+    );
 }
 
 /// Whether memory was wanting at any seat.
@@ -112,12 +113,7 @@ fn first_stopped<C>(seats: &[Seat<Node, C>], nodes: u8) -> Passed
 }
 
 /// All carriers meet; then all nodes make turns, each on a thread of its own, until each has ended its shift.
-pub(crate) fn shift<
-    R: Threads + Sync,
-    C: Carrier + Send,
-    G: Gate + Sync,
-    P: Chooser + Sync,
->(
+pub(crate) fn shift<R: Threads + Sync, C: Carrier + Send, G: Gate + Sync, P: Chooser + Sync>(
     rt: &R,
     alloc: Global,
     seats: &mut [Seat<Node, C>],

@@ -22,12 +22,7 @@ use std::sync::Wait;
 use std::thread::Threads;
 
 /// Shift after shift, until each node rests and nothing lies on the way, or a journal is full where more is due.
-fn run_shifts<
-    R: Threads + Wait + Sync,
-    C: Carrier + Send,
-    G: Gate + Sync,
-    P: Chooser + Sync,
->(
+fn run_shifts<R: Threads + Wait + Sync, C: Carrier + Send, G: Gate + Sync, P: Chooser + Sync>(
     rt: &R,
     alloc: Global,
     seats: &mut [Seat<Node, C>],

@@ -11,12 +11,11 @@ use node_links::{RingCarrier, ring_carriers};
 use outside::Gate;
 use policy_box::never_policy;
 use std::alloc::{AllocGlobal, Global};
-use std::io;
 use std::sync::Wait;
 use std::sync::atomic::{AtomicU64, Ordering};
-use std::thread;
 use std::thread::Threads;
 use std::time::{Clock, Duration};
+use std::{io, thread};
 use user_ctx::Users;
 
 /// How often a node looks for the other's flag, once each millisecond.

@@ -10,7 +10,7 @@ pub loop-init : goal.loop-init
 loop-init g c = pass_none g.C.Carrier.puts g.C.Carrier.gives g.C.Carrier.pair (given_by (g.P.Chooser.answers c.args.policy.now)) c.args.nodes c.args.seats.now
 
 pub shift-requires-clause-linked : goal.shift-requires-clause-linked
-shift-requires-clause-linked g c = λ w. linked_sides g.C.Carrier.pair c.args.seats.now c.loop.seats c.loop.invariant.sides c.requires.linked
+shift-requires-clause-linked g c = λ w v. linked_sides g.C.Carrier.pair c.args.seats.now c.loop.seats c.loop.invariant.sides c.requires.linked
 
 pub over_after-requires-clause-within : goal.over_after-requires-clause-within
 over_after-requires-clause-within g c = within_passed (given_by (g.P.Chooser.answers c.args.policy.now)) g.C.Carrier.puts g.C.Carrier.gives g.C.Carrier.pair c.args.nodes c.in_ok-passed.passed c.loop.seats c.shift.new.seats c.in_ok-passed.ensures

@@ -8,7 +8,7 @@ pub run_shifts-requires-clause-nodes : goal.run_shifts-requires-clause-nodes
 run_shifts-requires-clause-nodes g c = omega (arith, c.len-count.ensures, c.requires.most, seated_count g.C.Carrier.pair _ c.args.nodes c.args.carriers c.requires.pairs c.deref_mut.result.now (c.deref_mut.ensures.value ∙ c.in_ok-seats.ensures))
 
 pub run_shifts-requires-clause-linked : goal.run_shifts-requires-clause-linked
-run_shifts-requires-clause-linked g c = λ w. seated_linked g.C.Carrier.pair _ c.args.nodes c.args.carriers c.requires.pairs c.deref_mut.result.now (c.deref_mut.ensures.value ∙ c.in_ok-seats.ensures)
+run_shifts-requires-clause-linked g c = λ w v. seated_linked g.C.Carrier.pair _ c.args.nodes c.args.carriers c.requires.pairs c.deref_mut.result.now (c.deref_mut.ensures.value ∙ c.in_ok-seats.ensures)
 
 pub returns : goal.returns
 returns g c = λ plan room begins fit. serial_ran g.C.Carrier.pair _ c.args.nodes c.args.carriers c.requires.pairs c.deref_mut.result.now (c.deref_mut.ensures.value ∙ c.in_ok-seats.ensures) g.C.Carrier.puts g.C.Carrier.gives g.C.Carrier.total c.requires.fresh (given_by (g.P.Chooser.answers c.args.policy.now))
