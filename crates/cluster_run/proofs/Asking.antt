@@ -124,7 +124,7 @@ module _ (policy : Policy) {C : Type 0} (puts gives : C → List Letter) where
     asked_sides answer k = sides_then pair xs ys zs before.sides (one_side k.s k.t k.is k.now k.side)
 
     in_no_hand : (plan : Plan) (room : ℕ) (hands : ℕ → Option Letter) (s : Seat Node C) → slice_get ys n ≡ Some s → Stopped policy puts gives plan room hands at ys → LivesAt policy plan puts gives room n None s
-    in_no_hand plan room hands s is stop = subst (λ (o : Option Letter). LivesAt policy plan puts gives room n o s) (stop.off n (λ e. absurd (omega (arith, less, e)))) (stop.live.lives n s is)
+    in_no_hand plan room hands s is stop = subst (λ (o : Option Letter). LivesAt policy plan puts gives room n o s) (stop.off n less) (stop.live.lives n s is)
 
     pub asked_full : AskedAt policy puts gives rested.Full n ys zs → FirstFound policy puts gives at n xs zs
     asked_full k = (
@@ -133,7 +133,7 @@ module _ (policy : Policy) {C : Type 0} (puts gives : C → List Letter) where
           let f = before.found plan room hands stop in
           let a = k.asked plan room n (in_no_hand plan room hands k.s k.is f.0) in
           let same : AllSameButRest ys zs = subst (λ (w : List (Seat Node C)). AllSameButRest ys w) (sym k.now) (but_rest_set ys n k.s k.t k.is a.0) in
-          let none : hands n ≡ None = stop.off n (λ e. absurd (omega (arith, less, e))) in (
+          let none : hands n ≡ None = stop.off n less in (
             record {
               live = live_same plan ys zs same room hands f.0.live;
               goes = goes_same plan ys zs same hands n (λ s e. subst (λ (w : Seat Node C). IsFilled w × HasMore (machine policy plan) n (option_map (post_at policy plan n) (hands n)) (local policy plan w.node)) (some_is k.s s (sym k.is ∙ e)) (a.1, subst (λ (o : Option Letter). HasMore (machine policy plan) n (option_map (post_at policy plan n) o) (local policy plan k.s.node)) (sym none) a.2));

@@ -2,6 +2,8 @@
 use Rattle.std.proofs.Common.{◌≡◌, ◌≢◌, ℕ, ◌<◌, ◌≤◌, ◌==◌, ◌++◌, ◌⊎◌, inl, inr, Bool, true, false, cond, Option, Some, None, List, [], ◌∷◌, refl, sym, ap, ◌∙◌, subst, arith, length, map, slice_get, slice_set}
 use Rattle.std.specs.Option.{option_map}
 use Rattle.std.proofs.lemmas.Bool.{eqb-true, eq-eqb, ne_eqb}
+use Rattle.std.proofs.lemmas.Bool.Decides.{leb_tells}
+use lib.Dec.{leb}
 use Rattle.call_forward.specs.declared.letter.Letter.{Letter}
 use Rattle.protocol.specs.Rests.{Rests, HasMore}
 use Rattle.run_laws.specs.Carried.{Each}
@@ -13,8 +15,8 @@ use Rattle.node_core.specs.Locals.{local, post_of, post_at}
 use Rattle.cluster_run.specs.declared.seat.Seat.{Seat}
 use Rattle.cluster_run.specs.Sides.{towards}
 use Rattle.cluster_run.specs.Standing.{SeatCalm, Calm}
-use Rattle.cluster_run.specs.Seats.{bound, waiting, CameBy, Lives, LivesAt, Filled}
-use Rattle.cluster_run.specs.Passing.{OneFull}
+use Rattle.cluster_run.specs.Seats.{bound, waiting, CameBy, Lives, LivesAt, Ready, Filled}
+use Rattle.cluster_run.specs.Passing.{SomeFull}
 use Rattle.cluster_run.specs.Filling.{IsFilled, AllLive, GoesOn, RestsFilled, AreAsked, Stopped, NoneComes, OneWaits, OneTaken, IsAwaited, FirstAwaited}
 use Rattle.cluster_run.proofs.Calming.{below, get_set, length_set, some_is}
 use Rattle.cluster_run.proofs.Living.{lives_step}
@@ -196,35 +198,76 @@ module _ (policy : Policy) (plan : Plan) {C : Type 0} (puts gives : C → List L
 
   -- ---- the stop
 
-  module _ (room at : ℕ) (xs : List (Seat Node C)) (within : at < length xs) (one : OneFull policy puts gives plan room at xs) where
-    pub here : (s : Seat Node C) × (slice_get xs at ≡ Some s)
-    here = seat_at xs at within
+  -- the letter in hand at node k
+  pub record HandAt (room at k : ℕ) (xs : List (Seat Node C)) : Type 0 where
+    pub hand : Option Letter
+    pub lives : (s : Seat Node C) → slice_get xs k ≡ Some s → LivesAt policy plan puts gives room k hand s
+    pub none : slice_get xs k ≡ None → hand ≡ None
+    pub off : k < at → hand ≡ None
+    pub goes : k ≡ at → (s : Seat Node C) → slice_get xs k ≡ Some s → IsFilled s × HasMore (machine policy plan) k (option_map (post_at policy plan k) hand) (local policy plan s.node)
 
-    pub filled : Filled policy plan puts gives room at here.0
-    filled = one.full here.0 here.1
+  module _ (room at : ℕ) (xs : List (Seat Node C)) (some : SomeFull policy puts gives plan room at xs) where
+    module _ (k : ℕ) (s : Seat Node C) (is : slice_get xs k ≡ Some s) where
+      other_none : slice_get xs k ≡ None → ⊥
+      other_none e = let z : Some s ≡ None = sym is ∙ e in absurd cc
+
+      hand_ready : k ≢ at → Ready policy plan puts gives room k s → HandAt room at k xs
+      hand_ready apart r = record {
+        hand = None;
+        lives = λ u e. subst (λ (w : Seat Node C). LivesAt policy plan puts gives room k None w) (some_is s u (sym is ∙ e)) r.lives;
+        none = λ e. refl;
+        off = λ less. refl;
+        goes = λ same. absurd (apart same);
+      }
+
+      hand_filled : (k < at → ⊥) → Filled policy plan puts gives room k s → HandAt room at k xs
+      hand_filled least f = record {
+        hand = f.hand;
+        lives = λ u e. subst (λ (w : Seat Node C). LivesAt policy plan puts gives room k f.hand w) (some_is s u (sym is ∙ e)) f.lives;
+        none = λ e. absurd (other_none e);
+        off = λ less. absurd (least less);
+        goes = λ same u e. subst (λ (w : Seat Node C). IsFilled w × HasMore (machine policy plan) k (option_map (post_at policy plan k) f.hand) (local policy plan w.node)) (some_is s u (sym is ∙ e)) (f.full ∙ sym f.lives.room_is, f.more);
+      }
+
+      hand_above : at < k → Ready policy plan puts gives room k s ⊎ Filled policy plan puts gives room k s → HandAt room at k xs
+      hand_above more (inl r) = hand_ready (λ same. absurd (omega (arith, same, more))) r
+      hand_above more (inr f) = hand_filled (λ less. absurd (omega (arith, less, more))) f
+
+      hand_from : at ≤ k → (b : Bool) → (k == at) ≡ b → HandAt room at k xs
+      hand_from least true q =
+          let same : k ≡ at = eqb-true k at q in
+          hand_filled (λ less. absurd (omega (arith, less, same))) (subst (λ (i : ℕ). Filled policy plan puts gives room i s) (sym same) (some.full s (ap (slice_get xs) (sym same) ∙ is)))
+      hand_from least false q =
+          let apart : k ≢ at = (λ n. let z : true ≡ false = sym (eq-eqb k at n) ∙ q in absurd cc) in
+          let more : at < k = omega (arith, least, apart) in
+          hand_above more (some.above k s more is)
+
+      hand_of : ((leb at k ≡ true) × (at ≤ k)) ⊎ ((leb at k ≡ false) × (k < at)) → HandAt room at k xs
+      hand_of (inl x) = hand_from x.1 (k == at) refl
+      hand_of (inr x) = let less = x.1 in hand_ready (λ same. absurd (omega (arith, same, less))) (some.below k s less is)
+
+    pub hand_at : (k : ℕ) → HandAt room at k xs
+    hand_at k = go (slice_get xs k) refl
+      where
+        go : (o : Option (Seat Node C)) → slice_get xs k ≡ o → HandAt room at k xs
+        go (Some s) e = hand_of k s e (leb_tells at k)
+        go None e = record {
+          hand = None;
+          lives = λ s f. let z : None ≡ Some s = sym e ∙ f in absurd cc;
+          none = λ f. refl;
+          off = λ less. refl;
+          goes = λ same s f. let z : None ≡ Some s = sym e ∙ f in absurd cc;
+        }
 
     abbrev pub stop_hands : ℕ → Option Letter
-    stop_hands k = cond (k == at) filled.hand None
+    stop_hands k = (hand_at k).hand
 
-    hand_at : stop_hands at ≡ filled.hand
-    hand_at = ap (λ (b : Bool). cond b filled.hand None) (eq-eqb at at refl)
-
-    pub stop_off : (k : ℕ) → k ≢ at → stop_hands k ≡ None
-    stop_off k apart = ap (λ (b : Bool). cond b filled.hand None) (ne_eqb k at apart)
+    pub stop_off : (k : ℕ) → k < at → stop_hands k ≡ None
+    stop_off k less = (hand_at k).off less
 
     pub stopped : Stopped policy puts gives plan room stop_hands at xs
     stopped = record {
-      live = record { lives = λ k s e. by k s e (k == at) refl; none = λ k e. stop_off k (λ same. let z : Some here.0 ≡ None = sym here.1 ∙ (ap (slice_get xs) (sym same) ∙ e) in absurd cc) };
-      goes = λ s e. subst (λ (w : Seat Node C). IsFilled w × HasMore (machine policy plan) at (option_map (post_at policy plan at) (stop_hands at)) (local policy plan w.node)) (some_is here.0 s (sym here.1 ∙ e))
-          (filled.full ∙ sym filled.lives.room_is, subst (λ (o : Option Letter). HasMore (machine policy plan) at (option_map (post_at policy plan at) o) (local policy plan here.0.node)) (sym hand_at) filled.more);
+      live = record { lives = λ k s e. (hand_at k).lives s e; none = λ k e. (hand_at k).none e };
+      goes = λ s e. (hand_at at).goes refl s e;
       off = stop_off;
     }
-      where
-        by : (k : ℕ) (s : Seat Node C) → slice_get xs k ≡ Some s → (b : Bool) → (k == at) ≡ b → LivesAt policy plan puts gives room k (stop_hands k) s
-        by k s e true q =
-            let same : k ≡ at = eqb-true k at q in
-            let seat : here.0 ≡ s = some_is here.0 s (sym here.1 ∙ (ap (slice_get xs) (sym same) ∙ e)) in
-            subst (λ (i : ℕ). LivesAt policy plan puts gives room i (stop_hands i) s) (sym same) (subst (λ (o : Option Letter). LivesAt policy plan puts gives room at o s) (sym hand_at) (subst (λ (w : Seat Node C). LivesAt policy plan puts gives room at filled.hand w) seat filled.lives))
-        by k s e false q =
-            let apart : k ≢ at = (λ n. let z : true ≡ false = sym (eq-eqb k at n) ∙ q in absurd cc) in
-            subst (λ (o : Option Letter). LivesAt policy plan puts gives room k o s) (sym (stop_off k apart)) (one.others k s apart e).lives

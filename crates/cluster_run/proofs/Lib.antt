@@ -18,3 +18,4 @@ pub mod Leading
 pub mod Seated
 pub mod SerialRun
 pub mod Runs
+pub mod Shifts

@@ -1,5 +1,5 @@
 -- All seats, while one of them makes a round or letters go out.
-use Rattle.std.proofs.Common.{◌≡◌, ◌≢◌, ℕ, ◌<◌, ◌==◌, ◌++◌, Bool, true, false, Option, Some, None, List, [], refl, sym, ap, ◌∙◌, subst, length, slice_get, slice_set}
+use Rattle.std.proofs.Common.{◌≡◌, ◌≢◌, ℕ, ◌<◌, ◌==◌, ◌++◌, ◌⊎◌, inl, inr, Bool, true, false, Option, Some, None, List, [], refl, sym, ap, ◌∙◌, subst, arith, length, slice_get, slice_set}
 use Rattle.std.specs.Prelude.{option_to_list}
 use Rattle.std.proofs.lemmas.Bool.{eqb-true, eq-eqb}
 use Rattle.call_forward.specs.declared.letter.Letter.{Letter}
@@ -15,7 +15,7 @@ use Rattle.cluster_run.specs.declared.seat.Rest.TheVariants as rested
 use Rattle.cluster_run.specs.Sides.{SameCarrier, SameSide, towards}
 use Rattle.cluster_run.specs.Standing.{AreLinked, SeatCalm, Calm}
 use Rattle.cluster_run.specs.Seats.{bound, waiting, Step, Found, Ready, Filled, Went}
-use Rattle.cluster_run.specs.Passing.{AreWithin, SameSides, AllStep, AllReady, OneFull, StayReady, BecomeFull, TurnsAt, RoundAt, PassedAs}
+use Rattle.cluster_run.specs.Passing.{AreWithin, SameSides, AllStep, AllReady, StayReady, BecomeFull, TurnsAt, RoundAt, PassedAs}
 use Rattle.cluster_run.proofs.Places.{side_same, side_then}
 use Rattle.cluster_run.proofs.Calming.{linked_keeps, below, get_set, get_off, length_set, some_is}
 use Rattle.cluster_run.proofs.Living.{lives_step}
@@ -119,8 +119,9 @@ module _ {C : Type 0} (puts gives : C → List Letter) (pair : C → C → Type 
 
     turns_set : (a : Rest) (xs : List (Seat Node C)) (at : ℕ) (s t : Seat Node C) → slice_get xs at ≡ Some s → Went policy puts gives pair a s t → TurnsAt policy puts gives a at xs (slice_set xs at t)
     turns_set rested.Full xs at s t is w = λ plan room r. record {
-      others = λ k u apart e. r k u (set_off xs at s t is k u apart e);
+      below = λ k u less e. r k u (set_off xs at s t is k u (λ same. absurd (omega (arith, same, less))) e);
       full = λ u e. subst (λ (v : Seat Node C). Filled policy plan puts gives room at v) (set_here xs at s t is u e) (w.turns plan room at (r at s is));
+      above = λ k u more e. inl (r k u (set_off xs at s t is k u (λ same. absurd (omega (arith, same, more))) e));
     }
     turns_set rested.Busy xs at s t is w = λ plan room r. set_all xs at s t is (λ k u. Ready policy plan puts gives room k u) (w.turns plan room at (r at s is)) (λ k u apart e. r k u e)
     turns_set rested.Idle xs at s t is w = λ plan room r. set_all xs at s t is (λ k u. Ready policy plan puts gives room k u) (w.turns plan room at (r at s is)) (λ k u apart e. r k u e)

@@ -118,6 +118,7 @@ module _ {C : Type 0} (puts gives : C → List Letter) (pair : C → C → Type 
     pub went_round : (answer : Rest) (inbox : Option Letter) (s t u v : Seat Node C) → Step puts gives pair None s t → Step puts gives pair inbox t u → Made policy answer inbox u v → Went policy puts gives pair answer s v
     went_round answer inbox s t u v a b k = record {
       turns = by_rest answer inbox s t u v a b (made_after policy puts gives answer inbox u v k);
+      rest = ap (λ (w : Seat Node C). w.rest) k.same;
       side = subst (λ (w : List (Towards C)). SameSide pair s.side w) (sym (ap (λ (w : Seat Node C). w.side) k.same)) (side_then pair s.side t.side u.side a.side b.side);
     }
 

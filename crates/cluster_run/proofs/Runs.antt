@@ -15,10 +15,10 @@ use Rattle.cluster_run.specs.declared.pass.Passed.{Passed}
 use Rattle.cluster_run.specs.declared.pass.Passed.TheVariants as passed
 use Rattle.cluster_run.specs.Standing.{BothFront, Calm, AllMet}
 use Rattle.cluster_run.specs.Seats.{Step}
-use Rattle.cluster_run.specs.Passing.{AreWithin, SameSides, AllStep, AllReady, OneFull, StayReady, Passes, PassedAs, IsAtRest, AreStill, LookedAt, LookedAll, Stilled}
+use Rattle.cluster_run.specs.Passing.{AreWithin, SameSides, AllStep, AllReady, StayReady, Passes, PassedAs, IsAtRest, AreStill, LookedAt, LookedAll, Stilled}
 use Rattle.cluster_run.specs.Filling.{FirstFound, FirstAwaited, AreAsked}
 use Rattle.cluster_run.specs.Over.{Ran}
-use Rattle.cluster_run.specs.Running.{why_of, AreOver, AreFull, IsWhy}
+use Rattle.cluster_run.specs.Running.{why_of, AreOver, AreFull, IsWhy, IsWithin, OverAfter}
 use Rattle.cluster_run.proofs.Calming.{calm_then}
 use Rattle.cluster_run.proofs.Passing.{sides_then, sides_steps, within_sides, stay_steps, steps_none, steps_then, steps_set, steps_calm, set_here, set_off}
 use Rattle.cluster_run.proofs.Stilled.{ran_still}
@@ -96,11 +96,32 @@ module _ (policy : Policy) {C : Type 0} (puts gives : C → List Letter) (pair :
       → AreFull policy puts gives at (why.Full r) xs fs
   full_led nodes at first r none xs ys zs fs same below sides found awaited met plan room is_plan fit count most within one =
       let n : nodes ≡ plan.nodes = same ∙ count in
-      let f = found.1 plan room (stop_hands policy plan puts gives pair room at xs below one) (stopped policy plan puts gives pair room at xs below one) in
-      let off : (k : ℕ) → k < first → stop_hands policy plan puts gives pair room at xs below one k ≡ None = λ k less. stop_off policy plan puts gives pair room at xs below one k (λ e. let o = found.0 in absurd (omega (arith, less, e, o))) in
+      let f = found.1 plan room (stop_hands policy plan puts gives pair room at xs one) (stopped policy plan puts gives pair room at xs one) in
+      let off : (k : ℕ) → k < first → stop_hands policy plan puts gives pair room at xs one k ≡ None = λ k less. stop_off policy plan puts gives pair room at xs one k (let o = found.0 in omega (arith, less, o)) in
       let first_below : first < length ys = (let c = sides.count in let o = found.0 in omega (arith, c, o, below)) in
-      let l : Led policy plan puts gives pair nodes room r fs = led_calm policy plan puts gives pair nodes room r zs fs met.calm (led policy plan puts gives pair nodes room (stop_hands policy plan puts gives pair room at xs below one) first r ys zs first_below f.0 off awaited) in
+      let l : Led policy plan puts gives pair nodes room r fs = led_calm policy plan puts gives pair nodes room r zs fs met.calm (led policy plan puts gives pair nodes room (stop_hands policy plan puts gives pair room at xs one) first r ys zs first_below f.0 off awaited) in
       let all : SameSides pair xs fs = sides_then pair xs ys fs sides (sides_then pair ys zs fs (sides_found puts gives pair nodes first r ys zs awaited) (sides_steps puts gives pair zs fs (steps_calm puts gives pair zs fs met.calm))) in
       ran_full policy fit plan is_plan puts gives pair fs (all.count ∙ count) (let c = all.count in omega (arith, c, most)) (within_sides pair plan.nodes xs fs all within) room l.hands r
       (subst (λ (w : ℕ). IsLeast policy plan puts gives pair w room l.hands r fs) n l.least) none
       (λ a b a_less b_less. met.both a b (omega (arith, n, a_less)) (omega (arith, n, b_less)))
+
+  -- ---- after a pass or a shift
+
+  pub within_passed : (nodes : ℕ) (how : Passed) (xs ys : List (Seat Node C)) → PassedAs policy puts gives pair nodes how xs ys → IsWithin nodes how
+  within_passed nodes passed.Whole xs ys p = tt
+  within_passed nodes (passed.Full at) xs ys p = p.passes.0
+
+  module _ (nodes : ℕ) (how : Passed) (xs ys zs us : List (Seat Node C)) (before : PassedAs policy puts gives pair nodes passed.Whole xs ys) (now : PassedAs policy puts gives pair nodes how ys zs) where
+    pub over_then : (why : OverWhy) → nodes ≡ length xs → OverAfter policy puts gives pair nodes how (Some why) zs us → AreOver policy puts gives why xs us
+    over_then why same over = by how (passed_then nodes how xs ys zs before now) over
+      where
+        by : (h : Passed) → PassedAs policy puts gives pair nodes h xs zs → OverAfter policy puts gives pair nodes h (Some why) zs us → AreOver policy puts gives why xs us
+        by passed.Whole p o = over_still nodes why xs zs us same p o.0 o.1
+        by (passed.Full at) p o = over_full nodes at why xs zs us p o
+
+    pub goes_on : OverAfter policy puts gives pair nodes how None zs us → PassedAs policy puts gives pair nodes passed.Whole xs us
+    goes_on over = by how (passed_then nodes how xs ys zs before now) over
+      where
+        by : (h : Passed) → PassedAs policy puts gives pair nodes h xs zs → OverAfter policy puts gives pair nodes h None zs us → PassedAs policy puts gives pair nodes passed.Whole xs us
+        by passed.Whole p o = record { passes = λ plan room r. stay_steps puts gives pair policy zs us o plan room (p.passes plan room r); sides = sides_then pair xs zs us p.sides (sides_steps puts gives pair zs us o) }
+        by (passed.Full at) p o = absurd o

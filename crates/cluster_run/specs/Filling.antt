@@ -67,11 +67,11 @@ module _ (policy : Policy) {C : Type 0} (puts gives : C → List Letter) where
     pub side : t.side ≡ s.side
     pub asked : AskedSeat answer s t
 
-  -- where the run stopped at node `at`: it is in hand what came there
+  -- where the run stopped at node `at`, the least one that found its journal full: what came there, and at others above it, is in hand
   pub record Stopped (plan : Plan) (room : ℕ) (hands : ℕ → Option Letter) (at : ℕ) (seats : List (Seat Node C)) : Type 0 where
     pub live : AllLive policy plan puts gives room hands seats
     pub goes : GoesOn policy plan puts gives hands at seats
-    pub off : (k : ℕ) → k ≢ at → hands k ≡ None
+    pub off : (k : ℕ) → k < at → hands k ≡ None
 
   -- the first that goes on by itself was found below `at`, or is `at`
   abbrev pub FirstFound : ℕ → ℕ → List (Seat Node C) → List (Seat Node C) → Type 0

@@ -7,3 +7,4 @@ pub mod Over
 pub mod Running
 pub mod Filling
 pub mod Seating
+pub mod Shifting

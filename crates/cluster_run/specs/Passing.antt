@@ -1,5 +1,5 @@
 -- What a pass over all seats makes of them.
-use Rattle.std.specs.Prelude.{◌≡◌, ◌≢◌, ℕ, ◌<◌, ◌≤◌, Bool, true, Option, Some, None, List, [], length, slice_get}
+use Rattle.std.specs.Prelude.{◌≡◌, ◌≢◌, ◌⊎◌, ℕ, ◌<◌, ◌≤◌, Bool, true, Option, Some, None, List, [], length, slice_get}
 use Rattle.call_forward.specs.declared.letter.Letter.{Letter}
 use Rattle.node_links.specs.Sides.{carrier_to}
 use Rattle.node_machine.specs.Plan.{Plan}
@@ -34,16 +34,17 @@ module _ (policy : Policy) {C : Type 0} (puts gives : C → List Letter) where
   abbrev pub AllReady : Plan → ℕ → List (Seat Node C) → Type 0
   AllReady plan room seats = (k : ℕ) (s : Seat Node C) → slice_get seats k ≡ Some s → Ready policy plan puts gives room k s
 
-  -- all but one, which found its journal full
-  pub record OneFull (plan : Plan) (room at : ℕ) (seats : List (Seat Node C)) : Type 0 where
-    pub others : (k : ℕ) (s : Seat Node C) → k ≢ at → slice_get seats k ≡ Some s → Ready policy plan puts gives room k s
+  -- at least one found its journal full, and `at` is the first of them
+  pub record SomeFull (plan : Plan) (room at : ℕ) (seats : List (Seat Node C)) : Type 0 where
+    pub below : (k : ℕ) (s : Seat Node C) → k < at → slice_get seats k ≡ Some s → Ready policy plan puts gives room k s
     pub full : (s : Seat Node C) → slice_get seats at ≡ Some s → Filled policy plan puts gives room at s
+    pub above : (k : ℕ) (s : Seat Node C) → at < k → slice_get seats k ≡ Some s → Ready policy plan puts gives room k s ⊎ Filled policy plan puts gives room k s
 
   abbrev pub StayReady : List (Seat Node C) → List (Seat Node C) → Type 0
   StayReady old new = (plan : Plan) (room : ℕ) → AllReady plan room old → AllReady plan room new
 
   abbrev pub BecomeFull : ℕ → List (Seat Node C) → List (Seat Node C) → Type 0
-  BecomeFull at old new = (plan : Plan) (room : ℕ) → AllReady plan room old → OneFull plan room at new
+  BecomeFull at old new = (plan : Plan) (room : ℕ) → AllReady plan room old → SomeFull plan room at new
 
   -- by the answer of a turn at one seat
   abbrev pub TurnsAt : Rest → ℕ → List (Seat Node C) → List (Seat Node C) → Type 0

@@ -1,5 +1,5 @@
 -- Nodes at their seats.
-use Rattle.std.specs.Prelude.{ℕ, None, List, [], ◌∷◌}
+use Rattle.std.specs.Prelude.{ℕ, false, None, List, [], ◌∷◌}
 use Rattle.node_links.specs.declared.side.Towards.{Towards}
 use Rattle.node_core.specs.declared.node.Node.{Node}
 use Rattle.cluster_run.specs.declared.seat.Seat.{Seat}
@@ -8,7 +8,7 @@ use Rattle.cluster_run.specs.declared.seat.Rest.TheVariants as rested
 module _ {C : Type 0} where
   -- a node before its first turn
   abbrev pub seat_of : ℕ → Node → List (Towards C) → Seat Node C
-  seat_of last node side = record { node = node; waits = None; side = side; source = last; rest = rested.Busy }
+  seat_of last node side = record { node = node; waits = None; side = side; source = last; rest = rested.Busy; failed = false }
 
   -- each node with its side of the carriers
   abbrev pub seats_of : ℕ → List Node → List (List (Towards C)) → List (Seat Node C)

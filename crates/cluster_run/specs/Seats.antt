@@ -127,4 +127,5 @@ module _ (policy : Policy) {C : Type 0} (puts gives : C → List Letter) where
 
   pub record Went (pair : C → C → Type 0) (answer : Rest) (old new : Seat Node C) : Type 0 where
     pub turns : Turns answer old new
+    pub rest : new.rest ≡ answer
     pub side : SameSide pair old.side new.side

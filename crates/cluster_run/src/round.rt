@@ -26,7 +26,7 @@ fn rest_of(turned: Turned) -> Rest
 }
 
 /// Whether the answer of a turn was that nothing is due.
-fn is_rest(rest: Rest) -> bool
+pub(crate) fn is_rest(rest: Rest) -> bool
     ensures { result ≡ true → IsRest rest }
 {
     matches!(rest, Rest::Idle | Rest::Over)

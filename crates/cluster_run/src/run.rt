@@ -2,7 +2,7 @@
 ghost use Rattle.std.specs.Prelude.{◌≡◌, ◌<◌, ◌≤◌, length, IfOk};
 ghost use Rattle.node_machine.specs.Policy.{given_by};
 ghost use Rattle.cluster_run.specs.Standing.{AreLinked};
-ghost use Rattle.cluster_run.specs.Running.{why_of, AreOver, AreFull, IsWhy};
+ghost use Rattle.cluster_run.specs.Running.{why_of, AreOver, AreFull, IsWhy, IsWithin, OverAfter};
 
 use crate::full::{first_awaited, first_full};
 use crate::over::OverWhy;
@@ -53,6 +53,36 @@ fn why_full<C: Carrier, P: Chooser>(
     Ok(OverWhy::Full { node: least })
 }
 
+/// After a pass or a shift: why the run is over, or None where it goes on.
+pub(crate) fn over_after<C: Carrier, P: Chooser>(
+    alloc: Global,
+    seats: &mut [Seat<Node, C>],
+    passed: Passed,
+    nodes: u8,
+    policy: &Policy<P>,
+) -> Result<Option<OverWhy>, NoMemory>
+    requires some { 1 ≤ nodes }
+    requires nodes { nodes ≡ length seats.old }
+    requires within { IsWithin nodes passed }
+    requires linked { AreLinked C.pair seats.old }
+    ensures { IfOk result (λ over. OverAfter (given_by (P.answers policy.now)) C.puts C.gives C.pair nodes passed over seats.old seats.new) }
+{
+    match passed {
+        Passed::Full { node } => {
+            let why = why_full(alloc, seats, node, nodes, policy)?;
+            Ok(Some(why))
+        }
+        Passed::Whole => {
+            let still = is_still(seats, nodes)?;
+            if still {
+                Ok(Some(why_still(seats)))
+            } else {
+                Ok(None)
+            }
+        }
+    }
+}
+
 /// The nodes make turns one after another, round and round, until each rests and nothing lies on the way, or a journal is full where more is due.
 pub(crate) fn run_seats<C: Carrier, P: Chooser>(
     alloc: Global,
@@ -67,17 +97,9 @@ pub(crate) fn run_seats<C: Carrier, P: Chooser>(
 {
     for _ in 0..u64::MAX {
         let passed = pass(alloc, seats, nodes, policy)?;
-        match passed {
-            Passed::Full { node } => {
-                let why = why_full(alloc, seats, node, nodes, policy)?;
-                return Ok(why);
-            }
-            Passed::Whole => {
-                let still = is_still(seats, nodes)?;
-                if still {
-                    return Ok(why_still(seats));
-                }
-            }
+        let over = over_after(alloc, seats, passed, nodes, policy)?;
+        if let Some(why) = over {
+            return Ok(why);
         }
     }
     Err(NoMemory)

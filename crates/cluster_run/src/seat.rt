@@ -16,7 +16,7 @@ pub enum Rest {
 }
 
 /// A node, whatever it is, at its seat: its side of the carriers, the letter that a link gave back and that goes out first, the source of the
-/// letter that came last, and what its last turn answered.
+/// letter that came last, what its last turn answered, and whether memory was wanting in a shift.
 #[derive(Drop)]
 pub struct Seat<N, C> {
     pub node: N,
@@ -24,4 +24,5 @@ pub struct Seat<N, C> {
     pub side: Side<C>,
     pub source: u8,
     pub rest: Rest,
+    pub failed: bool,
 }

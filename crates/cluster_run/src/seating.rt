@@ -19,6 +19,7 @@ fn seat_of<C>(node: Node, side: Side<C>, last: u8) -> Seat<Node, C>
         side,
         source: last,
         rest: Rest::Busy,
+        failed: false,
     }
 }
 

@@ -1,10 +1,9 @@
-use Rattle.std.proofs.Common.{Bool, true, subst}
+use Rattle.std.proofs.Common.{Option, Some, None, subst}
 use Rattle.node_machine.specs.Policy.{given_by}
-use Rattle.cluster_run.specs.declared.pass.Passed.{Passed}
-use Rattle.cluster_run.specs.declared.pass.Passed.TheVariants as passed
-use Rattle.cluster_run.specs.Passing.{PassedAs, Stilled}
+use Rattle.cluster_run.specs.declared.over.OverWhy.{OverWhy}
+use Rattle.cluster_run.specs.Running.{OverAfter}
 use Rattle.cluster_run.proofs.Passing.{linked_sides, sides_then, pass_none}
-use Rattle.cluster_run.proofs.Runs.{passed_then, passed_still, over_still, over_full}
+use Rattle.cluster_run.proofs.Runs.{within_passed, over_then, goes_on}
 use Rattle.cluster_run.proofs.run.run_seats.Goals as goal
 
 pub loop-init : goal.loop-init
@@ -13,22 +12,16 @@ loop-init g c = pass_none g.C.Carrier.puts g.C.Carrier.gives g.C.Carrier.pair (g
 pub pass-requires-clause-linked : goal.pass-requires-clause-linked
 pass-requires-clause-linked g c = linked_sides g.C.Carrier.pair c.args.seats.now c.loop.seats c.loop.invariant.sides c.requires.linked
 
-pub why_full-requires-clause-linked : goal.why_full-requires-clause-linked
-why_full-requires-clause-linked g c = linked_sides g.C.Carrier.pair c.args.seats.now c.pass.new.seats (sides_then g.C.Carrier.pair c.args.seats.now c.loop.seats c.pass.new.seats c.loop.invariant.sides c.in_ok-passed.ensures.sides) c.requires.linked
+pub over_after-requires-clause-within : goal.over_after-requires-clause-within
+over_after-requires-clause-within g c = within_passed (given_by (g.P.Chooser.answers c.args.policy.now)) g.C.Carrier.puts g.C.Carrier.gives g.C.Carrier.pair c.args.nodes c.in_ok-passed.passed c.loop.seats c.pass.new.seats c.in_ok-passed.ensures
 
-pub is_still-requires-clause-linked : goal.is_still-requires-clause-linked
-is_still-requires-clause-linked g c = linked_sides g.C.Carrier.pair c.args.seats.now c.pass.new.seats (sides_then g.C.Carrier.pair c.args.seats.now c.loop.seats c.pass.new.seats c.loop.invariant.sides c.in_ok-passed.ensures.sides) c.requires.linked
+pub over_after-requires-clause-linked : goal.over_after-requires-clause-linked
+over_after-requires-clause-linked g c = linked_sides g.C.Carrier.pair c.args.seats.now c.pass.new.seats (sides_then g.C.Carrier.pair c.args.seats.now c.loop.seats c.pass.new.seats c.loop.invariant.sides c.in_ok-passed.ensures.sides) c.requires.linked
 
-pub returns-in-Full : goal.returns-in-Full
-returns-in-Full g c = over_full (given_by (g.P.Chooser.answers c.args.policy.now)) g.C.Carrier.puts g.C.Carrier.gives g.C.Carrier.pair c.args.nodes c.in-Full.node c.in_ok-why-in-Full.why c.args.seats.now c.pass.new.seats c.why_full.new.seats
-    (passed_then (given_by (g.P.Chooser.answers c.args.policy.now)) g.C.Carrier.puts g.C.Carrier.gives g.C.Carrier.pair c.args.nodes (passed.Full c.in-Full.node) c.args.seats.now c.loop.seats c.pass.new.seats c.loop.invariant (subst (λ (p : Passed). PassedAs (given_by (g.P.Chooser.answers c.args.policy.now)) g.C.Carrier.puts g.C.Carrier.gives g.C.Carrier.pair c.args.nodes p c.loop.seats c.pass.new.seats) c.in-Full.is c.in_ok-passed.ensures)) c.in_ok-why-in-Full.ensures
-
-pub returns-then-still : goal.returns-then-still
-returns-then-still g c = over_still (given_by (g.P.Chooser.answers c.args.policy.now)) g.C.Carrier.puts g.C.Carrier.gives g.C.Carrier.pair c.args.nodes c.why_still.result c.args.seats.now c.pass.new.seats c.is_still.new.seats c.requires.nodes
-    (passed_then (given_by (g.P.Chooser.answers c.args.policy.now)) g.C.Carrier.puts g.C.Carrier.gives g.C.Carrier.pair c.args.nodes passed.Whole c.args.seats.now c.loop.seats c.pass.new.seats c.loop.invariant (subst (λ (p : Passed). PassedAs (given_by (g.P.Chooser.answers c.args.policy.now)) g.C.Carrier.puts g.C.Carrier.gives g.C.Carrier.pair c.args.nodes p c.loop.seats c.pass.new.seats) c.in-Whole.is c.in_ok-passed.ensures))
-    (subst (λ (b : Bool). Stilled g.C.Carrier.puts g.C.Carrier.gives g.C.Carrier.pair c.args.nodes b c.pass.new.seats c.is_still.new.seats) c.if-still.true c.in_ok-still-in-Whole.ensures) c.why_still.ensures
+pub returns-in-Some : goal.returns-in-Some
+returns-in-Some g c = over_then (given_by (g.P.Chooser.answers c.args.policy.now)) g.C.Carrier.puts g.C.Carrier.gives g.C.Carrier.pair c.args.nodes c.in_ok-passed.passed c.args.seats.now c.loop.seats c.pass.new.seats c.over_after.new.seats c.loop.invariant c.in_ok-passed.ensures c.in-Some.why c.requires.nodes
+    (subst (λ (o : Option OverWhy). OverAfter (given_by (g.P.Chooser.answers c.args.policy.now)) g.C.Carrier.puts g.C.Carrier.gives g.C.Carrier.pair c.args.nodes c.in_ok-passed.passed o c.pass.new.seats c.over_after.new.seats) c.in-Some.is c.in_ok-over.ensures)
 
 pub loop-preserved : goal.loop-preserved
-loop-preserved g c = passed_still (given_by (g.P.Chooser.answers c.args.policy.now)) g.C.Carrier.puts g.C.Carrier.gives g.C.Carrier.pair c.args.nodes c.in_ok-still-in-Whole.still c.args.seats.now c.pass.new.seats c.is_still.new.seats
-    (passed_then (given_by (g.P.Chooser.answers c.args.policy.now)) g.C.Carrier.puts g.C.Carrier.gives g.C.Carrier.pair c.args.nodes passed.Whole c.args.seats.now c.loop.seats c.pass.new.seats c.loop.invariant (subst (λ (p : Passed). PassedAs (given_by (g.P.Chooser.answers c.args.policy.now)) g.C.Carrier.puts g.C.Carrier.gives g.C.Carrier.pair c.args.nodes p c.loop.seats c.pass.new.seats) c.in-Whole.is c.in_ok-passed.ensures))
-    c.in_ok-still-in-Whole.ensures
+loop-preserved g c = goes_on (given_by (g.P.Chooser.answers c.args.policy.now)) g.C.Carrier.puts g.C.Carrier.gives g.C.Carrier.pair c.args.nodes c.in_ok-passed.passed c.args.seats.now c.loop.seats c.pass.new.seats c.over_after.new.seats c.loop.invariant c.in_ok-passed.ensures
+    (subst (λ (o : Option OverWhy). OverAfter (given_by (g.P.Chooser.answers c.args.policy.now)) g.C.Carrier.puts g.C.Carrier.gives g.C.Carrier.pair c.args.nodes c.in_ok-passed.passed o c.pass.new.seats c.over_after.new.seats) c.in_default.is c.in_ok-over.ensures)
