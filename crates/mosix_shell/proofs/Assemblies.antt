@@ -22,7 +22,7 @@ use Rattle.mosix_shell.specs.Answers.{AsmAnswers}
 use Rattle.mosix_shell.specs.declared.mosix.Ended.{Ended}
 use Rattle.mosix_shell.specs.Assembling.{IsMadeOf, IsFaultOf, IsMadeFrom, IsFileOf, WritesFile, IsAssembly}
 use Rattle.mosix_shell.specs.declared.why.Why.{Why}
-use Rattle.mosix_shell.specs.declared.why.Why.TheVariants.{Done, Stuck, BadWords, BadScript, BadImage, ReadFault, WriteFault, NoMemory, JournalFull, NotBuilt, BadSource}
+use Rattle.mosix_shell.specs.declared.why.Why.TheVariants.{Done, Stuck, BadWords, BadScript, BadImage, ReadFault, WriteFault, NoMemory, JournalFull, BadSource}
 
 -- ---- the text
 
@@ -64,7 +64,6 @@ module _ {O : Type 0} (sink : Seen O (List ℕ)) where
   fault_writes text (BadImage line kind) f w = absurd f
   fault_writes text WriteFault f w = absurd f
   fault_writes text (JournalFull node) f w = absurd f
-  fault_writes text NotBuilt f w = absurd f
 
   refused_or : (text : List ℕ) (why told : Why) → IsFaultOf (assembled text) why → ((told ≡ why) ⊎ (told ≡ NoMemory)) → WritesLine sink (line_of told) → WritesFile text sink told
   refused_or text why told f (inl e) w = fault_writes text told (subst (IsFaultOf (assembled text)) (sym e) f) w

@@ -8,18 +8,21 @@ use Rattle.mosix_words.specs.declared.settings.Mode.TheVariants as mode
 use Rattle.mosix_words.specs.declared.settings.Settings.{Settings}
 use Rattle.node_machine.specs.Machine.{Policy}
 use Rattle.shell_text.specs.Printing.{AreWritten}
-use Rattle.shell_text.specs.Report.{chunks_of, report_writes}
+use Rattle.shell_text.specs.Report.{chunks_of}
 use Rattle.shell_text.specs.declared.run.Last.{Last}
 use Rattle.shell_text.specs.declared.run.Last.TheVariants as last
 use Rattle.shell_text.specs.declared.run.Run.{Run}
-use Rattle.mosix_shell.specs.Told.{Seen, HasRisen}
+use Rattle.mosix_shell.specs.Told.{Seen, kept, HasRisen}
 use Rattle.mosix_shell.specs.Why.{why_of_last}
-use Rattle.mosix_shell.specs.Writing.{WritesFront}
+use Rattle.mosix_shell.specs.Writing.{writes_of, WritesFront}
 use Rattle.mosix_shell.specs.Assembling.{WritesFile}
-use Rattle.mosix_shell.specs.Answers.{Tells, Refuses, AnswersIn, Answers}
+use Rattle.mosix_shell.specs.Generating.{seed_of, IsUnmade}
+use Rattle.mosix_shell.specs.Answers.{Tells, TellsWork, Refuses, AnswersIn, Answers}
 use Rattle.mosix_shell.specs.declared.mosix.Ended.{Ended}
+use Rattle.mosix_shell.specs.declared.printing.Form.{Form}
+use Rattle.mosix_shell.specs.declared.printing.Form.TheVariants.{Report, Summary}
 use Rattle.mosix_shell.specs.declared.why.Why.{Why}
-use Rattle.mosix_shell.specs.declared.why.Why.TheVariants.{Done, Stuck, BadWords, ReadFault, WriteFault, NoMemory, JournalFull, NotBuilt}
+use Rattle.mosix_shell.specs.declared.why.Why.TheVariants.{Done, Stuck, BadWords, ReadFault, WriteFault, NoMemory, JournalFull}
 
 -- ---- counts never fall while pieces are written
 
@@ -50,14 +53,31 @@ module _ (policy : Policy) (chance : Stream) {S I O : Type 0} (script : Seen S (
   reads_last last.Stuck h = absurd (let e : Stuck ≡ ReadFault = h in cc)
   reads_last (last.Full node) h = absurd (let e : JournalFull node ≡ ReadFault = h in cc)
 
-  tells_read : (settings : Settings) (o : Option Run) → Tells policy chance settings script images sink o ReadFault → HasRisen script ⊎ HasRisen images
-  tells_read settings (Some run) t = reads_last run.last (sym t.printed.0)
-  tells_read settings None t = elim t.causes [ inl c ↦ inl c.0 | inr c ↦ inr c.failed ]
+  tells_read : (form : Form) (settings : Settings) (o : Option Run) → Tells policy chance form settings script images sink o ReadFault → HasRisen script ⊎ HasRisen images
+  tells_read form settings (Some run) t = reads_last run.last (sym t.printed.0)
+  tells_read form settings None t = elim t.causes [ inl c ↦ inl c.0 | inr c ↦ inr c.failed ]
 
-  tells_write : (settings : Settings) (o : Option Run) → Tells policy chance settings script images sink o WriteFault → HasRisen sink
-  tells_write settings (Some run) t = front_rose sink (report_writes run t.orders settings.events) t.printed
-  tells_write settings None t = absurd t.causes
+  tells_write : (form : Form) (settings : Settings) (o : Option Run) → Tells policy chance form settings script images sink o WriteFault → HasRisen sink
+  tells_write form settings (Some run) t = front_rose sink (writes_of form t.orders run) t.printed
+  tells_write form settings None t = absurd t.causes
 
+-- nothing that is at hand fails
+none_rose : {A : Type 0} → Rose 0 0 → A
+none_rose h = absurd (omega (arith, h))
+
+module _ (policy : Policy) (chance : Stream) {O : Type 0} (settings : Settings) (sink : Seen O (List ℕ)) where
+  work_read : {A : Type 0} (ended : Ended) → TellsWork policy chance settings sink ended → ended.why ≡ ReadFault → A
+  work_read ended (inl r) e =
+      elim (tells_read policy chance (kept r.work.script) (kept r.work.images) sink Summary settings ended.run (subst (Tells policy chance Summary settings (kept r.work.script) (kept r.work.images) sink ended.run) e r.answers.tells))
+      [ inl h ↦ none_rose h | inr h ↦ none_rose h ]
+  work_read ended (inr m) e = absurd (subst (IsUnmade (seed_of settings.seed)) e m.cause)
+
+  work_write : (ended : Ended) → TellsWork policy chance settings sink ended → ended.why ≡ WriteFault → HasRisen sink
+  work_write ended (inl r) e =
+      tells_write policy chance (kept r.work.script) (kept r.work.images) sink Summary settings ended.run (subst (Tells policy chance Summary settings (kept r.work.script) (kept r.work.images) sink ended.run) e r.answers.tells)
+  work_write ended (inr m) e = absurd (subst (IsUnmade (seed_of settings.seed)) e m.cause)
+
+module _ (policy : Policy) (chance : Stream) {S I O : Type 0} (script : Seen S (List ℕ)) (images : Seen I (List NamedFile)) (sink : Seen O (List ℕ)) where
   refuses_not : (only told' : Why) (ended : Ended) → Refuses only script images sink ended → ended.why ≡ told' → (only ≡ told' → ⊥) → (NoMemory ≡ told' → ⊥) → ⊥
   refuses_not only told' ended r e h k = elim r.why [ inl same ↦ h (sym same ∙ e) | inr memory ↦ k (sym memory ∙ e) ]
 
@@ -65,14 +85,14 @@ module _ (policy : Policy) (chance : Stream) {S I O : Type 0} (script : Seen S (
   asm_write text w = front_rose sink (chunks_of w.0) w.2
 
   mode_read : (m : Mode) (settings : Settings) (ended : Ended) → AnswersIn policy chance m settings script images sink ended → ended.why ≡ ReadFault → HasRisen script ⊎ HasRisen images
-  mode_read mode.Run settings ended a e = tells_read settings ended.run (subst (Tells policy chance settings script images sink ended.run) e a.tells)
+  mode_read mode.Run settings ended a e = tells_read policy chance script images sink (Report settings.events) settings ended.run (subst (Tells policy chance (Report settings.events) settings script images sink ended.run) e a.answers.tells)
   mode_read mode.Asm settings ended a e = inl (a.read_fault e)
-  mode_read mode.Gen settings ended a e = absurd (refuses_not NotBuilt ReadFault ended a e (λ h. cc) (λ h. cc))
+  mode_read mode.Gen settings ended a e = work_read policy chance settings sink ended a.work e
 
   mode_write : (m : Mode) (settings : Settings) (ended : Ended) → AnswersIn policy chance m settings script images sink ended → ended.why ≡ WriteFault → HasRisen sink
-  mode_write mode.Run settings ended a e = tells_write settings ended.run (subst (Tells policy chance settings script images sink ended.run) e a.tells)
+  mode_write mode.Run settings ended a e = tells_write policy chance script images sink (Report settings.events) settings ended.run (subst (Tells policy chance (Report settings.events) settings script images sink ended.run) e a.answers.tells)
   mode_write mode.Asm settings ended a e = asm_write a.assembly.text (subst (WritesFile a.assembly.text sink) e a.assembly.written)
-  mode_write mode.Gen settings ended a e = absurd (refuses_not NotBuilt WriteFault ended a e (λ h. cc) (λ h. cc))
+  mode_write mode.Gen settings ended a e = work_write policy chance settings sink ended a.work e
 
   pub read_cause : (words : Option Settings) (ended : Ended) → Answers policy chance words script images sink ended → ended.why ≡ ReadFault → HasRisen script ⊎ HasRisen images
   read_cause None ended a e = absurd (refuses_not BadWords ReadFault ended a e (λ h. cc) (λ h. cc))

@@ -5,6 +5,7 @@ pub mod Scripts
 pub mod Ranges
 pub mod Plans
 pub mod Loading
+pub mod Keeping
 pub mod Weaves
 pub mod Telling
 pub mod Replies

@@ -18,7 +18,7 @@ use Rattle.mosix_shell.specs.Images.{RunLine, run_in, runs_of, name_of, image_in
 use Rattle.mosix_shell.specs.declared.images.Unloaded.{Unloaded}
 use Rattle.mosix_shell.specs.declared.images.Unloaded.TheVariants.{Refused, Failed, WantsMemory}
 use Rattle.mosix_shell.specs.declared.why.Why.{Why}
-use Rattle.mosix_shell.specs.declared.why.Why.TheVariants.{Done, Stuck, BadWords, BadScript, BadImage, ReadFault, WriteFault, NoMemory, JournalFull, NotBuilt, BadSource}
+use Rattle.mosix_shell.specs.declared.why.Why.TheVariants.{Done, Stuck, BadWords, BadScript, BadImage, ReadFault, WriteFault, NoMemory, JournalFull, BadSource}
 
 -- ---- one image
 
@@ -152,7 +152,6 @@ loads_refused files whole rs line words users BadWords h k = absurd h
 loads_refused files whole rs line words users (BadScript l kind) h k = absurd h
 loads_refused files whole rs line words users WriteFault h k = absurd h
 loads_refused files whole rs line words users (JournalFull node) h k = absurd h
-loads_refused files whole rs line words users NotBuilt h k = absurd h
 loads_refused files whole rs line words users (BadSource l kind) h k = absurd h
 
 -- ---- the same of the lines of a script, by their orders

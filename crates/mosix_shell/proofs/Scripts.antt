@@ -16,7 +16,9 @@ use Rattle.shell_text.specs.declared.fault.ScriptError.TheVariants as fault
 use Rattle.shell_text.specs.declared.keyword.Keyword.{Keyword}
 use Rattle.shell_text.specs.declared.keyword.Keyword.TheVariants.{Run, Kill, Move, Feed, Eof, Wait, After, Held, Slots}
 use Rattle.mosix_shell.specs.Reading.{IsReadPast}
-use Rattle.mosix_shell.specs.Orders.{IsScriptOf, IsFaultOf, FitsStack, FitStacks}
+use Rattle.mosix_shell.specs.Orders.{IsScriptOf, IsFaultOf, IsUnread, FitsStack, FitStacks}
+use Rattle.mosix_shell.specs.declared.why.Why.{Why}
+use Rattle.mosix_shell.specs.declared.why.Why.TheVariants.{Done, Stuck, BadWords, BadScript, BadImage, ReadFault, WriteFault, NoMemory, JournalFull, BadSource}
 use Rattle.mosix_shell.proofs.EachOrder.{OfOrder, of_alone, of_one, of_two, OfEach, of_each}
 
 -- ---- what was read comes to what the source's text comes to
@@ -33,13 +35,33 @@ same_script nodes left text h =
       | inr short ↦ ap (script_of nodes) (h.0 short)
     ]
 
-pub orders_read : (nodes : ℕ) (left : Option (List ℕ)) (text read : List ℕ) (orders : List ScriptLine) → IsReadPast SCRIPT_BYTES left text → read ≡ text → script_of nodes read ≡ Ok orders → IsScriptOf nodes left orders
-orders_read nodes None text read orders h same e = record { text = read; text_is = tt; reads = e }
-orders_read nodes (Some left) text read orders h same e = record { text = left; text_is = refl; reads = sym (ap (script_of nodes) same ∙ same_script nodes left text h) ∙ e }
+pub orders_written : (nodes : ℕ) (text : List ℕ) (orders : List ScriptLine) → script_of nodes text ≡ Ok orders → IsScriptOf nodes (Some text) orders
+orders_written nodes text orders e = record { text = text; text_is = refl; reads = e }
 
-pub fault_read : (nodes : ℕ) (left : Option (List ℕ)) (text read : List ℕ) (line kind : ℕ) → IsReadPast SCRIPT_BYTES left text → read ≡ text → script_of nodes read ≡ Err (fault.Fault line kind) → IsFaultOf nodes left line kind
-fault_read nodes None text read line kind h same e = record { text = read; text_is = tt; reads = e }
-fault_read nodes (Some left) text read line kind h same e = record { text = left; text_is = refl; reads = sym (ap (script_of nodes) same ∙ same_script nodes left text h) ∙ e }
+pub fault_written : (nodes : ℕ) (text : List ℕ) (line kind : ℕ) → script_of nodes text ≡ Err (fault.Fault line kind) → IsFaultOf nodes (Some text) line kind
+fault_written nodes text line kind e = record { text = text; text_is = refl; reads = e }
+
+pub orders_read : (nodes : ℕ) (left : Option (List ℕ)) (text read : List ℕ) (orders : List ScriptLine) → IsReadPast SCRIPT_BYTES left text → read ≡ text → IsScriptOf nodes (Some read) orders → IsScriptOf nodes left orders
+orders_read nodes None text read orders h same r = record { text = r.text; text_is = tt; reads = r.reads }
+orders_read nodes (Some left) text read orders h same r =
+    record { text = left; text_is = refl; reads = sym (ap (script_of nodes) (r.text_is ∙ same) ∙ same_script nodes left text h) ∙ r.reads }
+
+fault_read : (nodes : ℕ) (left : Option (List ℕ)) (text read : List ℕ) (line kind : ℕ) → IsReadPast SCRIPT_BYTES left text → read ≡ text → IsFaultOf nodes (Some read) line kind → IsFaultOf nodes left line kind
+fault_read nodes None text read line kind h same r = record { text = r.text; text_is = tt; reads = r.reads }
+fault_read nodes (Some left) text read line kind h same r =
+    record { text = left; text_is = refl; reads = sym (ap (script_of nodes) (r.text_is ∙ same) ∙ same_script nodes left text h) ∙ r.reads }
+
+pub unread_read : (nodes : ℕ) (left : Option (List ℕ)) (text read : List ℕ) (why : Why) → IsReadPast SCRIPT_BYTES left text → read ≡ text → IsUnread nodes (Some read) why → IsUnread nodes left why
+unread_read nodes left text read (BadScript line kind) h same u = fault_read nodes left text read line kind h same u
+unread_read nodes left text read ReadFault h same u = tt
+unread_read nodes left text read NoMemory h same u = tt
+unread_read nodes left text read Done h same u = absurd u
+unread_read nodes left text read Stuck h same u = absurd u
+unread_read nodes left text read BadWords h same u = absurd u
+unread_read nodes left text read (BadImage line kind) h same u = absurd u
+unread_read nodes left text read WriteFault h same u = absurd u
+unread_read nodes left text read (JournalFull node) h same u = absurd u
+unread_read nodes left text read (BadSource line kind) h same u = absurd u
 
 -- ---- the words of a line
 

@@ -10,7 +10,7 @@ use Rattle.mosix_shell.specs.Told.{Seen, IsTextOf, IsUntouched}
 use Rattle.mosix_shell.specs.Why.{line_of}
 use Rattle.mosix_shell.specs.Writing.{WritesAll, WritesFront, WritesLine}
 use Rattle.mosix_shell.specs.declared.why.Why.{Why}
-use Rattle.mosix_shell.specs.declared.why.Why.TheVariants.{Done, Stuck, BadWords, BadScript, BadImage, ReadFault, WriteFault, NoMemory, JournalFull, NotBuilt, BadSource}
+use Rattle.mosix_shell.specs.declared.why.Why.TheVariants.{Done, Stuck, BadWords, BadScript, BadImage, ReadFault, WriteFault, NoMemory, JournalFull, BadSource}
 
 -- the text's first fault, unless the source failed or memory was wanting
 abbrev pub IsFaultOf : Result (List ℕ) Fault → Why → Type 0
@@ -24,7 +24,6 @@ IsFaultOf outcome (BadScript line kind) = ⊥
 IsFaultOf outcome (BadImage line kind) = ⊥
 IsFaultOf outcome WriteFault = ⊥
 IsFaultOf outcome (JournalFull node) = ⊥
-IsFaultOf outcome NotBuilt = ⊥
 
 -- the text's file, or why there is none
 abbrev pub IsMadeOf : Result (List ℕ) Fault → Result (List ℕ) Why → Type 0
@@ -54,7 +53,6 @@ WritesFile text sink BadWords = ⊥
 WritesFile text sink (BadScript line kind) = ⊥
 WritesFile text sink (BadImage line kind) = ⊥
 WritesFile text sink (JournalFull node) = ⊥
-WritesFile text sink NotBuilt = ⊥
 
 -- the answer of a source's text: by `assembled`
 pub record IsAssembly {O : Type 0} (left : Option (List ℕ)) (sink : Seen O (List ℕ)) (why : Why) : Type 0 where

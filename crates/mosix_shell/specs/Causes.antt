@@ -1,4 +1,4 @@
--- When each answer of mode `run` comes.
+-- When each answer of a script and images comes.
 use Rattle.std.specs.Prelude.{◌≡◌, ◌⊎◌, ℕ, false, List, Option, Result, Ok, Err, if◌then◌else◌}
 use Rattle.outside.specs.Outside.{NamedFile}
 use Rattle.node_event.specs.declared.script.ScriptLine.{ScriptLine}
@@ -11,7 +11,7 @@ use Rattle.mosix_shell.specs.Told.{Seen, WhereTold, told, HasRisen, IsUntouched}
 use Rattle.mosix_shell.specs.Orders.{IsScriptOf, IsFaultOf}
 use Rattle.mosix_shell.specs.Images.{Refusal, runs_of, images_of, AreImagesOf, IsRefused}
 use Rattle.mosix_shell.specs.declared.why.Why.{Why}
-use Rattle.mosix_shell.specs.declared.why.Why.TheVariants.{Done, Stuck, BadWords, BadScript, BadImage, ReadFault, WriteFault, NoMemory, JournalFull, NotBuilt, BadSource}
+use Rattle.mosix_shell.specs.declared.why.Why.TheVariants.{Done, Stuck, BadWords, BadScript, BadImage, ReadFault, WriteFault, NoMemory, JournalFull, BadSource}
 
 -- ---- causes: what stands behind an answer that comes without a run
 
@@ -39,7 +39,6 @@ IsScriptUnreadable script images = HasRisen script × IsUntouched images
 abbrev pub CauseOf : {S I : Type 0} → Settings → Seen S (List ℕ) → Seen I (List NamedFile) → Why → Type 0
 CauseOf settings script images (BadScript line kind) = IsFaultOf settings.nodes (told script) line kind × IsUntouched images
 CauseOf settings script images (BadImage line kind) = HasRefused settings (told script) (told images) line kind
-CauseOf settings script images NotBuilt = ⊥
 CauseOf settings script images ReadFault = IsScriptUnreadable script images ⊎ IsUnreadable settings (told script) images
 CauseOf settings script images NoMemory = Unit {0}
 CauseOf settings script images BadWords = ⊥
@@ -78,7 +77,6 @@ verdict_of nodes text files = verdict_on_script files (script_of nodes text)
 abbrev pub Follows : Why → Verdict → Type 0
 Follows (BadScript line kind) v = v ≡ IsFaulty line kind
 Follows (BadImage line kind) v = v ≡ HasBadImage line kind
-Follows NotBuilt v = ⊥
 Follows Done v = v ≡ Runs
 Follows Stuck v = v ≡ Runs
 Follows (JournalFull node) v = v ≡ Runs

@@ -14,7 +14,7 @@ use Rattle.outside.specs.declared.traits.LoadFault.TheVariants as fault
 use Rattle.mosix_shell.specs.declared.images.Unloaded.{Unloaded}
 use Rattle.mosix_shell.specs.declared.images.Unloaded.TheVariants.{Refused, Failed, WantsMemory}
 use Rattle.mosix_shell.specs.declared.why.Why.{Why}
-use Rattle.mosix_shell.specs.declared.why.Why.TheVariants.{Done, Stuck, BadWords, BadScript, BadImage, ReadFault, WriteFault, NoMemory, JournalFull, NotBuilt, BadSource}
+use Rattle.mosix_shell.specs.declared.why.Why.TheVariants.{Done, Stuck, BadWords, BadScript, BadImage, ReadFault, WriteFault, NoMemory, JournalFull, BadSource}
 
 -- ---- the `run` lines
 
@@ -109,7 +109,6 @@ IsUnloaded files runs BadWords = ⊥
 IsUnloaded files runs (BadScript line kind) = ⊥
 IsUnloaded files runs WriteFault = ⊥
 IsUnloaded files runs (JournalFull node) = ⊥
-IsUnloaded files runs NotBuilt = ⊥
 IsUnloaded files runs (BadSource line kind) = ⊥
 
 -- ---- one line after the other

@@ -1,6 +1,7 @@
 pub mod Answers
 pub mod Assembling
 pub mod Causes
+pub mod Generating
 pub mod Headline
 pub mod Images
 pub mod Left

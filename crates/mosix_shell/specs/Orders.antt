@@ -8,7 +8,7 @@ use Rattle.shell_text.specs.Script.{script_of}
 use Rattle.shell_text.specs.declared.fault.ScriptError.TheVariants as fault
 use Rattle.mosix_shell.specs.Told.{IsTextOf}
 use Rattle.mosix_shell.specs.declared.why.Why.{Why}
-use Rattle.mosix_shell.specs.declared.why.Why.TheVariants.{Done, Stuck, BadWords, BadScript, BadImage, ReadFault, WriteFault, NoMemory, JournalFull, NotBuilt, BadSource}
+use Rattle.mosix_shell.specs.declared.why.Why.TheVariants.{Done, Stuck, BadWords, BadScript, BadImage, ReadFault, WriteFault, NoMemory, JournalFull, BadSource}
 
 -- orders that a text writes for so many nodes: that of the source, where it is told
 pub record IsScriptOf (nodes : ℕ) (left : Option (List ℕ)) (orders : List ScriptLine) : Type 0 where
@@ -33,7 +33,6 @@ IsUnread nodes left BadWords = ⊥
 IsUnread nodes left (BadImage line kind) = ⊥
 IsUnread nodes left WriteFault = ⊥
 IsUnread nodes left (JournalFull node) = ⊥
-IsUnread nodes left NotBuilt = ⊥
 IsUnread nodes left (BadSource line kind) = ⊥
 
 -- the orders are those of some text

@@ -21,6 +21,10 @@ pub record Seen (T A : Type 0) : Type 0 where
 abbrev pub seen : {T A : Type 0} → (T → Option A) → (T → ℕ) → T → T → Seen T A
 seen tells faults old new = record { tells = tells; faults = faults; old = old; new = new }
 
+-- what is at hand: it is told, never fails and stays as it is
+abbrev pub kept : {A : Type 0} → A → Seen A A
+kept x = seen (λ y. Some y) (λ y. 0) x x
+
 -- what it told before the call
 abbrev pub told : {T A : Type 0} → Seen T A → Option A
 told s = s.tells s.old

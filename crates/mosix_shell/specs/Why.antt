@@ -4,7 +4,7 @@ use Rattle.std.specs.Fmt.{decimal}
 use Rattle.shell_text.specs.declared.run.Last.{Last}
 use Rattle.shell_text.specs.declared.run.Last.TheVariants as last
 use Rattle.mosix_shell.specs.declared.why.Why.{Why}
-use Rattle.mosix_shell.specs.declared.why.Why.TheVariants.{Done, Stuck, BadWords, BadScript, BadImage, ReadFault, WriteFault, NoMemory, JournalFull, NotBuilt, BadSource}
+use Rattle.mosix_shell.specs.declared.why.Why.TheVariants.{Done, Stuck, BadWords, BadScript, BadImage, ReadFault, WriteFault, NoMemory, JournalFull, BadSource}
 
 -- the status of an answer
 abbrev pub status_of : Why → ℕ
@@ -17,14 +17,13 @@ status_of ReadFault = 5
 status_of WriteFault = 6
 status_of NoMemory = 7
 status_of (JournalFull node) = 8
-status_of NotBuilt = 10
 status_of (BadSource line kind) = 11
 
 -- a line of a text and two numbers
 abbrev pub numbered : List ℕ → ℕ → ℕ → List ℕ
 numbered text line kind = text ++ codes " " ++ decimal line ++ codes " " ++ decimal kind ++ codes "\n"
 
--- the line of an answer without a report or a file; none where nothing is written
+-- the line of an answer without a report, a summary or a file; none where nothing is written
 abbrev pub line_of : Why → Option (List ℕ)
 line_of Done = None
 line_of Stuck = None
@@ -35,10 +34,9 @@ line_of ReadFault = Some (codes "read fault\n")
 line_of WriteFault = None
 line_of NoMemory = None
 line_of (JournalFull node) = None
-line_of NotBuilt = Some (codes "not built\n")
 line_of (BadSource line kind) = Some (numbered (codes "bad source") line kind)
 
--- an answer that comes with a run, in mode `run`
+-- an answer that comes with a run, where one is asked for
 abbrev pub has_run : Why → Bool
 has_run Done = true
 has_run Stuck = true

@@ -150,6 +150,7 @@ pub fn load_users<I: Images>(
     requires { FitStacks orders.now }
     ensures users { IfOk result (AreImagesOf (I.files images.old) (runs_of orders.now)) }
     ensures refused { IfErr result (IsUnloaded (I.files images.old) (runs_of orders.now)) }
+    ensures files { I.files images.new ≡ I.files images.old }
     ensures later { I.faults images.old ≤ I.faults images.new }
     ensures fault { result ≡ Err Why.ReadFault → Rose (I.faults images.old) (I.faults images.new) }
 {

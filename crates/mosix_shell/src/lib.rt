@@ -1,13 +1,16 @@
-// The top call: from the words to the report.
+// The top call: from the words to the report, the summary or the file.
 #![tactic(auto)]
 
 pub mod assembling;
 mod chance;
 mod copying;
+mod generating;
 pub mod images;
+mod kept;
 mod left;
 pub mod mosix;
 pub mod orders;
+mod printing;
 pub mod reading;
 pub mod runner;
 pub mod stage;

@@ -1,22 +1,25 @@
 // The top call.
-ghost use Rattle.std.specs.Prelude.{◌≡◌, ◌⊎◌, ◌+◌, Some, None, Err, IfOk, IfErr};
+ghost use Rattle.std.specs.Prelude.{◌≡◌, ◌⊎◌, Some, None, Err, IfOk, IfErr};
 ghost use Rattle.outside.specs.Outside.{Rose};
 ghost use Rattle.mosix_words.specs.Settings.{settings_of};
 ghost use Rattle.node_machine.specs.Policy.{given_by};
-ghost use Rattle.shell_text.specs.Report.{report_writes};
-ghost use Rattle.mosix_shell.specs.Told.{seen};
+ghost use Rattle.mosix_shell.specs.Told.{seen, kept};
 ghost use Rattle.mosix_shell.specs.Why.{status_of, line_of};
-ghost use Rattle.mosix_shell.specs.Writing.{WritesLine};
+ghost use Rattle.mosix_shell.specs.Writing.{writes_of, WritesLine};
 ghost use Rattle.mosix_shell.specs.Orders.{FitStacks, IsScript};
 ghost use Rattle.mosix_shell.specs.Ranges.{IsInRange};
-ghost use Rattle.mosix_shell.specs.Answers.{Answers, AnswersIn, RunAnswers, AsmAnswers};
+ghost use Rattle.mosix_shell.specs.Answers.{Answers, AnswersIn, ScriptAnswers, RunAnswers, AsmAnswers, TellsWork};
 ghost use Rattle.mosix_shell.specs.Parts.{IsRunFrom, IsUnrun, IsTold, TellsOrders};
 
 use crate::assembling::assemble_source;
+use crate::generating::work_of;
 use crate::images::load_users;
-use crate::orders::read_orders;
+use crate::kept::KeptImages;
+use crate::orders::{orders_of, read_orders};
+use crate::printing::{Form, print_run};
 use crate::runner::{OneThread, OwnThreads, Runner};
 use crate::stage::run_users;
+
 use crate::why::{Why, line_of, status_of, why_of_last};
 use call_table::Words;
 use mosix_words::{Mode, Settings, WordsError, mode_of};
@@ -24,13 +27,14 @@ use node_event::Script;
 use outside::{Gate, Images, Sink, Source};
 use policy_box::{Chooser, Policy};
 use rand_core::Rng;
-use shell_text::{PrintFault, Run, print_report, write_bytes};
+use shell_text::{PrintFault, Run, write_bytes};
 use std::alloc::Global;
 use std::sync::Wait;
 use std::thread::Threads;
+use work_gen::Work;
 
-/// What the call answers. A run is there exactly where one was made to its end and its report was written or failed to be:
-/// at `Done`, `Stuck`, `JournalFull` and `WriteFault` of mode `run`.
+/// What the call answers. A run is there exactly where one was made to its end and its report or summary was written or failed to be:
+/// at `Done`, `Stuck`, `JournalFull` and `WriteFault` of the modes `run` and `gen`.
 #[derive(Drop)]
 pub struct Ended {
     pub status: u8,
@@ -66,7 +70,7 @@ fn refuse<O: Sink>(alloc: Global, out: &mut O, why: Why) -> Ended
     }
 }
 
-// ---- mode `run`
+// ---- a run
 
 /// The run of a script's orders.
 fn run_of<I: Images, R: Rng, P: Chooser + Sync, U: Runner>(
@@ -83,6 +87,7 @@ fn run_of<I: Images, R: Rng, P: Chooser + Sync, U: Runner>(
     requires script { IsScript settings.now.nodes orders.now }
     ensures run { IfOk result (IsRunFrom (given_by (P.answers policy.now)) (R.stream rng.old) settings.now (I.files images.old) orders.now) }
     ensures none { IfErr result (IsUnrun (I.files images.old) orders.now) }
+    ensures files { I.files images.new ≡ I.files images.old }
     ensures fault { result ≡ Err Why.ReadFault → Rose (I.faults images.old) (I.faults images.new) }
 {
     let users = match load_users(alloc, images, orders.as_slice()) {
@@ -95,28 +100,23 @@ fn run_of<I: Images, R: Rng, P: Chooser + Sync, U: Runner>(
     }
 }
 
-/// Writes the report of a run of these orders.
-fn tell<O: Sink>(
-    alloc: Global,
-    settings: &Settings,
-    orders: &Script,
-    run: Run,
-    out: &mut O,
-) -> Ended
+/// Writes a run of these orders in a form.
+fn tell<O: Sink>(alloc: Global, form: Form, orders: &Script, run: Run, out: &mut O) -> Ended
     ensures status { result.status ≡ status_of result.why }
-    ensures told { IsTold (seen O.written O.faults out.old out.new) (report_writes run orders.now settings.now.events) run result.run result.why }
+    ensures told { IsTold (seen O.written O.faults out.old out.new) (writes_of form orders.now run) run result.run result.why }
 {
-    match print_report(alloc, &run, orders, settings.events, out) {
+    match print_run(alloc, form, &run, orders, out) {
         Ok(()) => answer(why_of_last(run.last), Some(run)),
         Err(PrintFault::Failed) => answer(Why::WriteFault, Some(run)),
         Err(PrintFault::NoMemory) => answer(Why::NoMemory, None),
     }
 }
 
-/// Runs a script's orders and writes the report.
+/// Runs a script's orders and writes the run in a form.
 fn run_orders<I: Images, O: Sink, R: Rng, P: Chooser + Sync, U: Runner>(
     alloc: Global,
     settings: &Settings,
+    form: Form,
     orders: &Script,
     images: &mut I,
     out: &mut O,
@@ -128,13 +128,16 @@ fn run_orders<I: Images, O: Sink, R: Rng, P: Chooser + Sync, U: Runner>(
     requires range { IsInRange settings.now }
     requires script { IsScript settings.now.nodes orders.now }
     ensures status { result.status ≡ status_of result.why }
-    ensures tells { TellsOrders (given_by (P.answers policy.now)) (R.stream rng.old) settings.now orders.now (seen I.files I.faults images.old images.new) (seen O.written O.faults out.old out.new) result.run result.why }
+    ensures files { I.files images.new ≡ I.files images.old }
+    ensures tells { TellsOrders (given_by (P.answers policy.now)) (R.stream rng.old) form settings.now orders.now (seen I.files I.faults images.old images.new) (seen O.written O.faults out.old out.new) result.run result.why }
 {
     match run_of(alloc, settings, orders, images, rng, policy, runner) {
-        Ok(run) => tell(alloc, settings, orders, run, out),
+        Ok(run) => tell(alloc, form, orders, run, out),
         Err(why) => refuse(alloc, out, why),
     }
 }
+
+// ---- mode `run`
 
 /// Mode `run`: from the script to the report.
 fn run_script<S: Source, I: Images, O: Sink, R: Rng, P: Chooser + Sync, U: Runner>(
@@ -152,7 +155,14 @@ fn run_script<S: Source, I: Images, O: Sink, R: Rng, P: Chooser + Sync, U: Runne
     ensures answers { RunAnswers (given_by (P.answers policy.now)) (R.stream rng.old) settings.now (seen S.left S.faults script.old script.new) (seen I.files I.faults images.old images.new) (seen O.written O.faults out.old out.new) result }
 {
     match read_orders(alloc, script, settings.nodes) {
-        Ok(orders) => run_orders(alloc, settings, &orders, images, out, rng, policy, runner),
+        Ok(orders) => {
+            let form = Form::Report {
+                events: settings.events,
+            };
+            run_orders(
+                alloc, settings, form, &orders, images, out, rng, policy, runner,
+            )
+        }
         Err(why) => refuse(alloc, out, why),
     }
 }
@@ -179,6 +189,57 @@ fn assemble_script<S: Source, I: Images, O: Sink>(
     }
 }
 
+// ---- mode `gen`
+
+/// Runs the script of work by its images and writes the summary.
+fn run_work<O: Sink, R: Rng, P: Chooser + Sync>(
+    alloc: Global,
+    settings: &Settings,
+    work: Work,
+    out: &mut O,
+    rng: &mut R,
+    policy: &Policy<P>,
+) -> Ended
+    requires { IsInRange settings.now }
+    ensures status { result.status ≡ status_of result.why }
+    ensures answers { ScriptAnswers (given_by (P.answers policy.now)) (R.stream rng.old) Form.Summary settings.now (kept work.script) (kept work.images) (seen O.written O.faults out.old out.new) result }
+{
+    let Work { script, images } = work;
+    let mut images = KeptImages::new(alloc, images);
+    match orders_of(alloc, script.as_slice(), settings.nodes) {
+        Ok(orders) => run_orders(
+            alloc,
+            settings,
+            Form::Summary,
+            &orders,
+            &mut images,
+            out,
+            rng,
+            policy,
+            &OneThread,
+        ),
+        Err(why) => refuse(alloc, out, why),
+    }
+}
+
+/// Mode `gen`: from the seed to the summary. It reads nothing, and one thread makes all turns.
+fn gen_work<O: Sink, R: Rng, P: Chooser + Sync>(
+    alloc: Global,
+    settings: &Settings,
+    out: &mut O,
+    rng: &mut R,
+    policy: &Policy<P>,
+) -> Ended
+    requires { IsInRange settings.now }
+    ensures status { result.status ≡ status_of result.why }
+    ensures work { TellsWork (given_by (P.answers policy.now)) (R.stream rng.old) settings.now (seen O.written O.faults out.old out.new) result }
+{
+    match work_of(alloc, settings) {
+        Ok(work) => run_work(alloc, settings, work, out, rng, policy),
+        Err(why) => refuse(alloc, out, why),
+    }
+}
+
 // ---- all modes
 
 /// What the words ask for.
@@ -199,7 +260,7 @@ fn run_settings<S: Source, I: Images, O: Sink, R: Rng, P: Chooser + Sync, U: Run
     match settings.mode {
         Mode::Run => run_script(alloc, settings, script, images, out, rng, policy, runner),
         Mode::Asm => assemble_script(alloc, script, images, out),
-        Mode::Gen => refuse(alloc, out, Why::NotBuilt),
+        Mode::Gen => gen_work(alloc, settings, out, rng, policy),
     }
 }
 
@@ -215,7 +276,7 @@ fn answer_words<S: Source, I: Images, O: Sink, R: Rng, P: Chooser + Sync, U: Run
     runner: &U,
 ) -> Ended
     ensures status { result.status ≡ status_of result.why }
-    // What each mode promises, and words of no mode: `RunAnswers`, `AsmAnswers`, `Refuses`.
+    // What each mode promises, and words of no mode: `RunAnswers`, `AsmAnswers`, `GenAnswers`, `Refuses`.
     ensures answers { Answers (given_by (P.answers policy.now)) (R.stream rng.old) (settings_of words.now) (seen S.left S.faults script.old script.new) (seen I.files I.faults images.old images.new) (seen O.written O.faults out.old out.new) result }
 
     // A fault of reading or writing has its cause.
@@ -241,7 +302,7 @@ pub fn mosix_serial<S: Source, I: Images, O: Sink, R: Rng, P: Chooser + Sync>(
     policy: &Policy<P>,
 ) -> Ended
     ensures status { result.status ≡ status_of result.why }
-    // What each mode promises, and words of no mode: `RunAnswers`, `AsmAnswers`, `Refuses`.
+    // What each mode promises, and words of no mode: `RunAnswers`, `AsmAnswers`, `GenAnswers`, `Refuses`.
     ensures answers { Answers (given_by (P.answers policy.now)) (R.stream rng.old) (settings_of words.now) (seen S.left S.faults script.old script.new) (seen I.files I.faults images.old images.new) (seen O.written O.faults out.old out.new) result }
 
     // A fault of reading or writing has its cause.
@@ -274,7 +335,7 @@ pub fn mosix<
     policy: &Policy<P>,
 ) -> Ended
     ensures status { result.status ≡ status_of result.why }
-    // What each mode promises, and words of no mode: `RunAnswers`, `AsmAnswers`, `Refuses`.
+    // What each mode promises, and words of no mode: `RunAnswers`, `AsmAnswers`, `GenAnswers`, `Refuses`.
     ensures answers { Answers (given_by (P.answers policy.now)) (R.stream rng.old) (settings_of words.now) (seen S.left S.faults script.old script.new) (seen I.files I.faults images.old images.new) (seen O.written O.faults out.old out.new) result }
 
     // A fault of reading or writing has its cause.

@@ -1,9 +1,9 @@
-// The table of the answers: the status of each, and the text of the line that stands in place of a report or a file.
+// The table of the answers: the status of each, and the text of the line that stands in place of a report, a summary or a file.
 
 /// The report, the summary or the file was written, and every process has ended.
 pub const DONE: u8 = 0;
 
-/// The report was written, and nothing can go on.
+/// The report or the summary was written, and nothing can go on.
 pub const STUCK: u8 = 1;
 
 /// The words ask for nothing.
@@ -34,15 +34,10 @@ pub const WRITE_FAULT: u8 = 6;
 /// Memory that was asked for was not found.
 pub const NO_MEMORY: u8 = 7;
 
-/// The report was written, and the journal of a node was full.
+/// The report or the summary was written, and the journal of a node was full.
 pub const JOURNAL_FULL: u8 = 8;
 
-/// What was asked for is not built yet.
-pub const NOT_BUILT: u8 = 10;
-
-pub const NOT_BUILT_LINE: &str = "not built\n";
-
-/// A line of the assembler's text is faulty.
+/// A line of a text that is assembled is faulty.
 pub const BAD_SOURCE: u8 = 11;
 
 /// Behind it stand the line and the kind of its fault.

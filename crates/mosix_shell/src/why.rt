@@ -10,9 +10,9 @@ use std::alloc::Global;
 /// Why the call ended.
 #[derive(Clone, Copy, Debug, PartialEq, Eq)]
 pub enum Why {
-    /// All was done, and the report or the file was written.
+    /// All was done, and the report, the summary or the file was written.
     Done,
-    /// Nothing could go on, and the report was written.
+    /// Nothing could go on, and the report or the summary was written.
     Stuck,
     /// The words ask for nothing.
     BadWords,
@@ -22,14 +22,12 @@ pub enum Why {
     BadImage { line: u32, kind: u8 },
     /// The script, the text or an image could not be read.
     ReadFault,
-    /// The report or the file could not be written.
+    /// The report, the summary or the file could not be written.
     WriteFault,
     NoMemory,
-    /// The journal of this node was full, and the report was written.
+    /// The journal of this node was full, and the report or the summary was written.
     JournalFull { node: u8 },
-    /// A form that is not built yet.
-    NotBuilt,
-    /// The first faulty line of the assembler's text and the kind of its fault.
+    /// The first faulty line of a text that is assembled and the kind of its fault.
     BadSource { line: u32, kind: u8 },
 }
 
@@ -47,7 +45,6 @@ pub fn status_of(why: Why) -> u8
         Why::WriteFault => status::WRITE_FAULT,
         Why::NoMemory => status::NO_MEMORY,
         Why::JournalFull { .. } => status::JOURNAL_FULL,
-        Why::NotBuilt => status::NOT_BUILT,
         Why::BadSource { .. } => status::BAD_SOURCE,
     }
 }
@@ -77,7 +74,7 @@ fn numbered(alloc: Global, text: &str, line: u32, kind: u8) -> Result<Bytes, NoM
     Ok(Bytes::from_vec(line.into_bytes()))
 }
 
-/// The line of an answer without a report or a file. None exactly where nothing is written in their place.
+/// The line of an answer without a report, a summary or a file. None exactly where nothing is written in their place.
 pub fn line_of(alloc: Global, why: Why) -> Result<Option<Bytes>, NoMemory>
     ensures { IfOk result (λ line. line ≡ line_of why) }
 {
@@ -86,7 +83,6 @@ pub fn line_of(alloc: Global, why: Why) -> Result<Option<Bytes>, NoMemory>
         Why::BadScript { line, kind } => numbered(alloc, status::BAD_SCRIPT_TEXT, line, kind)?,
         Why::BadImage { line, kind } => numbered(alloc, status::BAD_IMAGE_TEXT, line, kind)?,
         Why::ReadFault => plain(alloc, status::READ_FAULT_LINE)?,
-        Why::NotBuilt => plain(alloc, status::NOT_BUILT_LINE)?,
         Why::BadSource { line, kind } => numbered(alloc, status::BAD_SOURCE_TEXT, line, kind)?,
         Why::Done => return Ok(None),
         Why::Stuck => return Ok(None),

@@ -148,8 +148,12 @@ const HELLO_EVENTS: &[u8] = b"terminal 3\nhi\n\nprocess 1 exit 0\ndone\nevents 9
 1 0 command 1 1 - -\n2 0 steps 1 5\n3 0 sent 1 9\n4 0 served 1 did 9 3 - - 0 - -\n5 0 got 1 - 0 - -
 6 0 steps 1 2\n7 0 sent 1 1\n8 0 served 1 did 1 0 - x0 0 - -\n9 0 got 1 - 1 - -\n";
 
+/// The summary of the work of the seed 1.
+const WORK_SUMMARY: &[u8] =
+    b"processes 19\nexits 1831\nbytes 16\nfiles 3\nmoves 0\ndone\n";
+
 /// Words, and the status and the bytes that a run of hello tells by them.
-const WORDS: [(&[&str], u8, &[u8]); 26] = [
+const WORDS: [(&[&str], u8, &[u8]); 27] = [
     (&[], 2, b"bad words\n"),
     (&["--nodes", "9", "run"], 2, b"bad words\n"),
     (&["--nodes", "0", "run"], 2, b"bad words\n"),
@@ -178,7 +182,8 @@ const WORDS: [(&[&str], u8, &[u8]); 26] = [
     (&["--nodes", "2", "run"], 0, HELLO_REPORT),
     (&["--nodes", "1", "--quantum", "64", "run"], 0, HELLO_REPORT),
     (&["--nodes", "1", "--journal", "9", "run"], 0, HELLO_REPORT),
-    (&["gen"], 10, b"not built\n"),
+    (&["--nodes", "1", "gen"], 0, WORK_SUMMARY),
+    (&["--nodes", "1", "--seed", "1", "--events", "gen"], 0, WORK_SUMMARY),
     (&["--nodes", "1", "asm"], 11, b"bad source 1 2\n"),
 ];
 
