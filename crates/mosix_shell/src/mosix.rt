@@ -17,20 +17,16 @@ use crate::images::load_users;
 use crate::kept::KeptImages;
 use crate::orders::{orders_of, read_orders};
 use crate::printing::{Form, print_run};
-use crate::runner::{OneThread, OwnThreads, Runner};
 use crate::stage::run_users;
-
 use crate::why::{Why, line_of, status_of, why_of_last};
 use call_table::Words;
 use mosix_words::{Mode, Settings, WordsError, mode_of};
 use node_event::Script;
-use outside::{Gate, Images, Sink, Source};
+use outside::{Images, Sink, Source};
 use policy_box::{Chooser, Policy};
 use rand_core::Rng;
 use shell_text::{PrintFault, Run, write_bytes};
 use std::alloc::Global;
-use std::sync::Wait;
-use std::thread::Threads;
 use work_gen::Work;
 
 /// What the call answers. A run is there exactly where one was made to its end and its report or summary was written or failed to be:
@@ -42,7 +38,7 @@ pub struct Ended {
     pub run: Option<Run>,
 }
 
-fn answer(why: Why, run: Option<Run>) -> Ended
+pub(crate) fn answer(why: Why, run: Option<Run>) -> Ended
     ensures { result ≡ record { status = status_of why; why = why; run = run } }
 {
     Ended {
@@ -53,7 +49,7 @@ fn answer(why: Why, run: Option<Run>) -> Ended
 }
 
 /// Writes the line of an answer without a run.
-fn refuse<O: Sink>(alloc: Global, out: &mut O, why: Why) -> Ended
+pub(crate) fn refuse<O: Sink>(alloc: Global, out: &mut O, why: Why) -> Ended
     ensures status { result.status ≡ status_of result.why }
     ensures run { result.run ≡ None }
     ensures why { (result.why ≡ why) ⊎ (result.why ≡ Why.NoMemory) }
@@ -73,14 +69,13 @@ fn refuse<O: Sink>(alloc: Global, out: &mut O, why: Why) -> Ended
 // ---- a run
 
 /// The run of a script's orders.
-fn run_of<I: Images, R: Rng, P: Chooser + Sync, U: Runner>(
+fn run_of<I: Images, R: Rng, P: Chooser>(
     alloc: Global,
     settings: &Settings,
     orders: &Script,
     images: &mut I,
     rng: &mut R,
     policy: &Policy<P>,
-    runner: &U,
 ) -> Result<Run, Why>
     requires fit { FitStacks orders.now }
     requires range { IsInRange settings.now }
@@ -94,14 +89,14 @@ fn run_of<I: Images, R: Rng, P: Chooser + Sync, U: Runner>(
         Ok(users) => users,
         Err(why) => return Err(why),
     };
-    match run_users(alloc, settings, orders, users, rng, policy, runner) {
+    match run_users(alloc, settings, orders, users, rng, policy) {
         Ok(run) => Ok(run),
         Err(_) => Err(Why::NoMemory),
     }
 }
 
 /// Writes a run of these orders in a form.
-fn tell<O: Sink>(alloc: Global, form: Form, orders: &Script, run: Run, out: &mut O) -> Ended
+pub(crate) fn tell<O: Sink>(alloc: Global, form: Form, orders: &Script, run: Run, out: &mut O) -> Ended
     ensures status { result.status ≡ status_of result.why }
     ensures told { IsTold (seen O.written O.faults out.old out.new) (writes_of form orders.now run) run result.run result.why }
 {
@@ -113,7 +108,7 @@ fn tell<O: Sink>(alloc: Global, form: Form, orders: &Script, run: Run, out: &mut
 }
 
 /// Runs a script's orders and writes the run in a form.
-fn run_orders<I: Images, O: Sink, R: Rng, P: Chooser + Sync, U: Runner>(
+fn run_orders<I: Images, O: Sink, R: Rng, P: Chooser>(
     alloc: Global,
     settings: &Settings,
     form: Form,
@@ -122,7 +117,6 @@ fn run_orders<I: Images, O: Sink, R: Rng, P: Chooser + Sync, U: Runner>(
     out: &mut O,
     rng: &mut R,
     policy: &Policy<P>,
-    runner: &U,
 ) -> Ended
     requires fit { FitStacks orders.now }
     requires range { IsInRange settings.now }
@@ -131,7 +125,7 @@ fn run_orders<I: Images, O: Sink, R: Rng, P: Chooser + Sync, U: Runner>(
     ensures files { I.files images.new ≡ I.files images.old }
     ensures tells { TellsOrders (given_by (P.answers policy.now)) (R.stream rng.old) form settings.now orders.now (seen I.files I.faults images.old images.new) (seen O.written O.faults out.old out.new) result.run result.why }
 {
-    match run_of(alloc, settings, orders, images, rng, policy, runner) {
+    match run_of(alloc, settings, orders, images, rng, policy) {
         Ok(run) => tell(alloc, form, orders, run, out),
         Err(why) => refuse(alloc, out, why),
     }
@@ -140,7 +134,7 @@ fn run_orders<I: Images, O: Sink, R: Rng, P: Chooser + Sync, U: Runner>(
 // ---- mode `run`
 
 /// Mode `run`: from the script to the report.
-fn run_script<S: Source, I: Images, O: Sink, R: Rng, P: Chooser + Sync, U: Runner>(
+fn run_script<S: Source, I: Images, O: Sink, R: Rng, P: Chooser>(
     alloc: Global,
     settings: &Settings,
     script: &mut S,
@@ -148,7 +142,6 @@ fn run_script<S: Source, I: Images, O: Sink, R: Rng, P: Chooser + Sync, U: Runne
     out: &mut O,
     rng: &mut R,
     policy: &Policy<P>,
-    runner: &U,
 ) -> Ended
     requires { IsInRange settings.now }
     ensures status { result.status ≡ status_of result.why }
@@ -160,7 +153,7 @@ fn run_script<S: Source, I: Images, O: Sink, R: Rng, P: Chooser + Sync, U: Runne
                 events: settings.events,
             };
             run_orders(
-                alloc, settings, form, &orders, images, out, rng, policy, runner,
+                alloc, settings, form, &orders, images, out, rng, policy,
             )
         }
         Err(why) => refuse(alloc, out, why),
@@ -170,7 +163,7 @@ fn run_script<S: Source, I: Images, O: Sink, R: Rng, P: Chooser + Sync, U: Runne
 // ---- mode `asm`
 
 /// Mode `asm`: from the text to its file.
-fn assemble_script<S: Source, I: Images, O: Sink>(
+pub(crate) fn assemble_script<S: Source, I: Images, O: Sink>(
     alloc: Global,
     script: &mut S,
     images: &mut I,
@@ -192,7 +185,7 @@ fn assemble_script<S: Source, I: Images, O: Sink>(
 // ---- mode `gen`
 
 /// Runs the script of work by its images and writes the summary.
-fn run_work<O: Sink, R: Rng, P: Chooser + Sync>(
+fn run_work<O: Sink, R: Rng, P: Chooser>(
     alloc: Global,
     settings: &Settings,
     work: Work,
@@ -216,14 +209,13 @@ fn run_work<O: Sink, R: Rng, P: Chooser + Sync>(
             out,
             rng,
             policy,
-            &OneThread,
         ),
         Err(why) => refuse(alloc, out, why),
     }
 }
 
 /// Mode `gen`: from the seed to the summary. It reads nothing, and one thread makes all turns.
-fn gen_work<O: Sink, R: Rng, P: Chooser + Sync>(
+pub(crate) fn gen_work<O: Sink, R: Rng, P: Chooser>(
     alloc: Global,
     settings: &Settings,
     out: &mut O,
@@ -243,7 +235,7 @@ fn gen_work<O: Sink, R: Rng, P: Chooser + Sync>(
 // ---- all modes
 
 /// What the words ask for.
-fn run_settings<S: Source, I: Images, O: Sink, R: Rng, P: Chooser + Sync, U: Runner>(
+pub(crate) fn run_settings<S: Source, I: Images, O: Sink, R: Rng, P: Chooser>(
     alloc: Global,
     settings: &Settings,
     script: &mut S,
@@ -251,21 +243,21 @@ fn run_settings<S: Source, I: Images, O: Sink, R: Rng, P: Chooser + Sync, U: Run
     out: &mut O,
     rng: &mut R,
     policy: &Policy<P>,
-    runner: &U,
 ) -> Ended
     requires { IsInRange settings.now }
     ensures status { result.status ≡ status_of result.why }
     ensures answers { AnswersIn (given_by (P.answers policy.now)) (R.stream rng.old) settings.now.mode settings.now (seen S.left S.faults script.old script.new) (seen I.files I.faults images.old images.new) (seen O.written O.faults out.old out.new) result }
 {
     match settings.mode {
-        Mode::Run => run_script(alloc, settings, script, images, out, rng, policy, runner),
+        Mode::Run => run_script(alloc, settings, script, images, out, rng, policy),
         Mode::Asm => assemble_script(alloc, script, images, out),
         Mode::Gen => gen_work(alloc, settings, out, rng, policy),
     }
 }
 
-/// What the words ask for, or their refusal.
-fn answer_words<S: Source, I: Images, O: Sink, R: Rng, P: Chooser + Sync, U: Runner>(
+/// All that the program does, by its words without its own name, where one thread makes all turns of a run, whatever the words say of threads. A run's moves
+/// are chosen by the policy, and its words of chance come from the seed that the words give, else from `rng`.
+pub fn mosix_serial<S: Source, I: Images, O: Sink, R: Rng, P: Chooser>(
     alloc: Global,
     words: &Words,
     script: &mut S,
@@ -273,7 +265,6 @@ fn answer_words<S: Source, I: Images, O: Sink, R: Rng, P: Chooser + Sync, U: Run
     out: &mut O,
     rng: &mut R,
     policy: &Policy<P>,
-    runner: &U,
 ) -> Ended
     ensures status { result.status ≡ status_of result.why }
     // What each mode promises, and words of no mode: `RunAnswers`, `AsmAnswers`, `GenAnswers`, `Refuses`.
@@ -284,65 +275,8 @@ fn answer_words<S: Source, I: Images, O: Sink, R: Rng, P: Chooser + Sync, U: Run
     ensures write { result.why ≡ Why.WriteFault → Rose (O.faults out.old) (O.faults out.new) }
 {
     match mode_of(alloc, words) {
-        Ok(settings) => run_settings(alloc, &settings, script, images, out, rng, policy, runner),
+        Ok(settings) => run_settings(alloc, &settings, script, images, out, rng, policy),
         Err(WordsError::BadWords) => refuse(alloc, out, Why::BadWords),
         Err(WordsError::NoMemory) => answer(Why::NoMemory, None),
     }
-}
-
-/// All that the program does, by its words without its own name, where one thread makes all turns of a run. It returns whatever the words are.
-/// A run's moves are chosen by the policy, and its words of chance come from the seed that the words give, else from `rng`.
-pub fn mosix_serial<S: Source, I: Images, O: Sink, R: Rng, P: Chooser + Sync>(
-    alloc: Global,
-    words: &Words,
-    script: &mut S,
-    images: &mut I,
-    out: &mut O,
-    rng: &mut R,
-    policy: &Policy<P>,
-) -> Ended
-    ensures status { result.status ≡ status_of result.why }
-    // What each mode promises, and words of no mode: `RunAnswers`, `AsmAnswers`, `GenAnswers`, `Refuses`.
-    ensures answers { Answers (given_by (P.answers policy.now)) (R.stream rng.old) (settings_of words.now) (seen S.left S.faults script.old script.new) (seen I.files I.faults images.old images.new) (seen O.written O.faults out.old out.new) result }
-
-    // A fault of reading or writing has its cause.
-    ensures read { result.why ≡ Why.ReadFault → Rose (S.faults script.old) (S.faults script.new) ⊎ Rose (I.faults images.old) (I.faults images.new) }
-    ensures write { result.why ≡ Why.WriteFault → Rose (O.faults out.old) (O.faults out.new) }
-{
-    let ended = answer_words(alloc, words, script, images, out, rng, policy, &OneThread);
-    ended
-}
-
-/// The same, where each node of a run makes its turns on a thread of its own, unless the words ask for one thread. The gate is called before each turn
-/// on a thread. It may wait, so that it returns is not promised.
-pub fn mosix<
-    T: Threads + Wait + Sync,
-    S: Source,
-    I: Images,
-    O: Sink,
-    R: Rng,
-    G: Gate + Sync,
-    P: Chooser + Sync,
->(
-    rt: &T,
-    alloc: Global,
-    words: &Words,
-    script: &mut S,
-    images: &mut I,
-    out: &mut O,
-    rng: &mut R,
-    gate: &G,
-    policy: &Policy<P>,
-) -> Ended
-    ensures status { result.status ≡ status_of result.why }
-    // What each mode promises, and words of no mode: `RunAnswers`, `AsmAnswers`, `GenAnswers`, `Refuses`.
-    ensures answers { Answers (given_by (P.answers policy.now)) (R.stream rng.old) (settings_of words.now) (seen S.left S.faults script.old script.new) (seen I.files I.faults images.old images.new) (seen O.written O.faults out.old out.new) result }
-
-    // A fault of reading or writing has its cause.
-    ensures read { result.why ≡ Why.ReadFault → Rose (S.faults script.old) (S.faults script.new) ⊎ Rose (I.faults images.old) (I.faults images.new) }
-    ensures write { result.why ≡ Why.WriteFault → Rose (O.faults out.old) (O.faults out.new) }
-{
-    let runner = OwnThreads { rt, gate };
-    let ended = answer_words(alloc, words, script, images, out, rng, policy, &runner);
-    ended
 }

@@ -10,9 +10,8 @@ ghost use Rattle.mosix_shell.specs.Ranges.{IsInRange};
 use crate::chance::seeds_of;
 use crate::copying::copied_script;
 use crate::left::told_by;
-use crate::runner::Runner;
 use call_table::NoMemory;
-use cluster_run::{Nodes, OverWhy};
+use cluster_run::{Nodes, OverWhy, run_serial};
 use mosix_words::Settings;
 use node_core::{Node, Plan, Shape};
 use node_event::{Script, ScriptLine};
@@ -59,7 +58,7 @@ fn first_nodes(
 }
 
 /// How a run ended.
-fn last_of(why: OverWhy) -> Last
+pub(crate) fn last_of(why: OverWhy) -> Last
     ensures { result ≡ last_of why }
 {
     match why {
@@ -71,7 +70,7 @@ fn last_of(why: OverWhy) -> Last
 
 /// The nodes of a run before anything happened.
 #[tactic(auto, using(crate::proofs::Telling::words_count))]
-fn staged<R: Rng>(
+pub(crate) fn staged<R: Rng>(
     alloc: Global,
     settings: &Settings,
     orders: &[ScriptLine],
@@ -88,12 +87,11 @@ fn staged<R: Rng>(
 }
 
 /// The run of nodes that have done nothing, to what they tell at its end.
-fn played<P: Chooser + Sync, U: Runner>(
+fn played<P: Chooser>(
     alloc: Global,
     settings: &Settings,
     nodes: Nodes,
     policy: &Policy<P>,
-    runner: &U,
 ) -> Result<Run, NoMemory>
     requires range { IsInRange settings.now }
     requires count { length nodes ≡ settings.now.nodes }
@@ -102,27 +100,26 @@ fn played<P: Chooser + Sync, U: Runner>(
 {
     policy.is_fitting();
     let carriers = ring_carriers(alloc, settings.nodes)?;
-    let over = runner.run(alloc, nodes, carriers, policy, settings.serial)?;
+    let over = run_serial(alloc, nodes, carriers, policy)?;
     let last = last_of(over.why);
     let told = told_by(alloc, last, over.nodes)?;
     Ok(told)
 }
 
 /// A run of orders by the processes of their `run` lines.
-pub fn run_users<R: Rng, P: Chooser + Sync, U: Runner>(
+pub fn run_users<R: Rng, P: Chooser>(
     alloc: Global,
     settings: &Settings,
     orders: &Script,
     users: Users,
     rng: &mut R,
     policy: &Policy<P>,
-    runner: &U,
 ) -> Result<Run, NoMemory>
     requires range { IsInRange settings.now }
     requires plan { IsPlan (plan_of (R.stream rng.old) settings.now orders.now users) }
     ensures { IfOk result (IsRun (given_by (P.answers policy.now)) (R.stream rng.old) settings.now orders.now users) }
 {
     let nodes = staged(alloc, settings, orders.as_slice(), users, rng)?;
-    let whole = played(alloc, settings, nodes, policy, runner)?;
+    let whole = played(alloc, settings, nodes, policy)?;
     Ok(whole)
 }

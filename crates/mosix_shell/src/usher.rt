@@ -7,7 +7,8 @@ ghost use Rattle.mosix_shell.specs.Why.{status_of};
 ghost use Rattle.mosix_shell.specs.Ushering.{ushered};
 ghost use Rattle.mosix_shell.specs.Answers.{Answers};
 
-use crate::mosix::{Ended, mosix};
+use crate::mosix::Ended;
+use crate::threads::mosix;
 use crate::why::Why;
 use call_table::Words;
 use outside::{Gate, Images, Sink, Source};
@@ -18,8 +19,15 @@ use std::sync::Wait;
 use std::thread::Threads;
 
 /// All that the program does, by its words without its own name: `mosix`, where each move that a node chooses is the best choice.
-pub fn mosix_usher<T: Threads + Wait + Sync, S: Source, I: Images, O: Sink, R: Rng, G: Gate + Sync>(
-    rt: &T,
+pub fn mosix_usher<
+    H: Threads + Wait + Sync,
+    S: Source,
+    I: Images,
+    O: Sink,
+    R: Rng,
+    G: Gate + Sync,
+>(
+    rt: &H,
     alloc: Global,
     words: &Words,
     script: &mut S,

@@ -38,8 +38,8 @@ fn words<R: Env + AllocGlobal>(rt: &R) -> Result<Words, NoMemory> {
 }
 
 /// All that the program does, over any outside: the status by which it ends.
-fn status_by<T: Threads + Wait + Sync, S: Source, I: Images, O: Sink, G: Gate + Sync>(
-    rt: &T,
+fn status_by<H: Threads + Wait + Sync, S: Source, I: Images, O: Sink, G: Gate + Sync>(
+    rt: &H,
     alloc: Global,
     words: &Words,
     script: &mut S,

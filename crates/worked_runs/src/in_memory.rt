@@ -3,7 +3,7 @@ use call_table::{Bytes, Named, Names, NoMemory, Text, Words};
 use mosix_shell::mosix::{Ended, mosix_serial};
 use mosix_shell::why::Why;
 use outside::{Calls, MemImages, MemSink, MemSource};
-use policy_box::{never_policy, usher_policy};
+use policy_box::never_policy;
 use rand_core::SeedableRng;
 use rand_pcg::Pcg32;
 use std::alloc::Global;
@@ -77,20 +77,6 @@ pub fn run_to_end(
     let words = words_of(alloc, words)?;
     let mut rng = Pcg32::seed_from_u64(1);
     let policy = never_policy();
-    Ok(mosix_serial(alloc, &words, source, images, sink, &mut rng, &policy))
-}
-
-/// One run of these words under the usher, to its answer and its run.
-pub fn usher_to_end(
-    alloc: Global,
-    words: &[&str],
-    source: &mut MemSource,
-    images: &mut MemImages,
-    sink: &mut MemSink,
-) -> Result<Ended, NoMemory> {
-    let words = words_of(alloc, words)?;
-    let mut rng = Pcg32::seed_from_u64(1);
-    let policy = usher_policy();
     Ok(mosix_serial(alloc, &words, source, images, sink, &mut rng, &policy))
 }
 

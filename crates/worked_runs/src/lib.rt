@@ -8,8 +8,6 @@ mod images;
 #[cfg(test)]
 mod in_memory;
 #[cfg(test)]
-mod moves;
-#[cfg(test)]
 mod play;
 #[cfg(test)]
 mod processes;

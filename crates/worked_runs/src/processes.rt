@@ -25,7 +25,7 @@ sys 1
 ";
 
 /// Parent and child read from one pipe, of which both hold the other end.
-pub const BOTH: &[u8] = b"la a0, p
+const BOTH: &[u8] = b"la a0, p
 sys 11
 sys 4
 la a1, p
@@ -71,7 +71,7 @@ b: .space 1
 ";
 
 /// Reads two bytes and forks; the child reads two more and exits with 7, the parent with the code that it waited for.
-pub const FORKER: &[u8] = b"li a0, 0
+const FORKER: &[u8] = b"li a0, 0
 la a1, b
 li a2, 2
 sys 8
@@ -94,7 +94,7 @@ b: .space 2
 ";
 
 /// Has a handler, reads, and exits with what its broken read answered.
-pub const INTR: &[u8] = b"li a0, 10
+const INTR: &[u8] = b"li a0, 10
 la a1, h
 la a2, k
 sys 15
@@ -124,7 +124,7 @@ b: .space 2
 ";
 
 /// Reads a line, writes a byte, and goes on for ever.
-pub const SPIN: &[u8] = b"li a0, 0
+const SPIN: &[u8] = b"li a0, 0
 la a1, b
 li a2, 2
 sys 8
@@ -155,7 +155,7 @@ const LOOP: &[u8] = b"l: j l
 ";
 
 /// Reads a line, writes a byte and exits.
-pub const LINE: &[u8] = b"li a0, 0
+const LINE: &[u8] = b"li a0, 0
 la a1, b
 li a2, 2
 sys 8
@@ -170,7 +170,7 @@ b: .space 2
 ";
 
 /// The words, the text of `program`, the script, the status and what is written. The image hello is there too.
-pub type Row<'a> = (&'a [&'a str], &'a [u8], &'a [u8], u8, &'a [u8]);
+type Row<'a> = (&'a [&'a str], &'a [u8], &'a [u8], u8, &'a [u8]);
 
 const ROWS: [Row<'static>; 14] = [
     (&RUN, LINE, b"", 0, b"terminal 0\n\ndone\n"),
@@ -268,7 +268,7 @@ const ROWS: [Row<'static>; 14] = [
 ];
 
 /// The files of a run: hello, and the program of a text.
-pub fn files_of(alloc: Global, text: &[u8]) -> Result<Names, NoMemory> {
+fn files_of(alloc: Global, text: &[u8]) -> Result<Names, NoMemory> {
     let file = assembled(alloc, text, NEVER)?;
     let mut files = Names::new(alloc);
     files.push(named(alloc, b"hello", &HELLO)?)?;
@@ -289,7 +289,7 @@ fn row_tells(
     Ok(())
 }
 
-pub fn rows_tell(rt: &impl Abort, alloc: Global, rows: &[Row]) -> Result<(), NoMemory> {
+fn rows_tell(rt: &impl Abort, alloc: Global, rows: &[Row]) -> Result<(), NoMemory> {
     for row in rows {
         row_tells(rt, alloc, row.0, row.1, row.2, (row.3, row.4))?;
     }

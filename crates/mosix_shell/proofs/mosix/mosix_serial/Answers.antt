@@ -5,7 +5,7 @@ use Rattle.mosix_shell.specs.Told.{seen}
 use Rattle.mosix_shell.proofs.Answering.{memory_answers, words_told}
 use Rattle.mosix_shell.proofs.Causing.{write_cause}
 use Rattle.mosix_shell.proofs.Ranges.{in_range}
-use Rattle.mosix_shell.proofs.mosix.answer_words.Goals as goal
+use Rattle.mosix_shell.proofs.mosix.mosix_serial.Goals as goal
 
 pub run_settings-requires : goal.run_settings-requires
 run_settings-requires g c = in_range c.args.words.now c.in-Ok.settings c.in-Ok.ensures.ok
