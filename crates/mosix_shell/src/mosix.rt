@@ -96,7 +96,13 @@ fn run_of<I: Images, R: Rng, P: Chooser>(
 }
 
 /// Writes a run of these orders in a form.
-pub(crate) fn tell<O: Sink>(alloc: Global, form: Form, orders: &Script, run: Run, out: &mut O) -> Ended
+pub(crate) fn tell<O: Sink>(
+    alloc: Global,
+    form: Form,
+    orders: &Script,
+    run: Run,
+    out: &mut O,
+) -> Ended
     ensures status { result.status ≡ status_of result.why }
     ensures told { IsTold (seen O.written O.faults out.old out.new) (writes_of form orders.now run) run result.run result.why }
 {
@@ -152,9 +158,7 @@ fn run_script<S: Source, I: Images, O: Sink, R: Rng, P: Chooser>(
             let form = Form::Report {
                 events: settings.events,
             };
-            run_orders(
-                alloc, settings, form, &orders, images, out, rng, policy,
-            )
+            run_orders(alloc, settings, form, &orders, images, out, rng, policy)
         }
         Err(why) => refuse(alloc, out, why),
     }

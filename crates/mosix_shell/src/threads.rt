@@ -203,9 +203,7 @@ fn answer_settings<
         return ended;
     }
     match settings.mode {
-        Mode::Run => run_script(
-            rt, alloc, settings, script, images, out, rng, gate, policy,
-        ),
+        Mode::Run => run_script(rt, alloc, settings, script, images, out, rng, gate, policy),
         Mode::Asm => assemble_script(alloc, script, images, out),
         Mode::Gen => gen_work(alloc, settings, out, rng, policy),
     }

@@ -19,14 +19,7 @@ use std::sync::Wait;
 use std::thread::Threads;
 
 /// All that the program does, by its words without its own name: `mosix`, where each move that a node chooses is the best choice.
-pub fn mosix_usher<
-    H: Threads + Wait + Sync,
-    S: Source,
-    I: Images,
-    O: Sink,
-    R: Rng,
-    G: Gate + Sync,
->(
+pub fn mosix_usher<H: Threads + Wait + Sync, S: Source, I: Images, O: Sink, R: Rng, G: Gate + Sync>(
     rt: &H,
     alloc: Global,
     words: &Words,

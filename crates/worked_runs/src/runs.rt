@@ -149,8 +149,7 @@ const HELLO_EVENTS: &[u8] = b"terminal 3\nhi\n\nprocess 1 exit 0\ndone\nevents 9
 6 0 steps 1 2\n7 0 sent 1 1\n8 0 served 1 did 1 0 - x0 0 - -\n9 0 got 1 - 1 - -\n";
 
 /// The summary of the work of the seed 1.
-const WORK_SUMMARY: &[u8] =
-    b"processes 19\nexits 1831\nbytes 16\nfiles 3\nmoves 0\ndone\n";
+const WORK_SUMMARY: &[u8] = b"processes 19\nexits 1831\nbytes 16\nfiles 3\nmoves 0\ndone\n";
 
 /// Words, and the status and the bytes that a run of hello tells by them.
 const WORDS: [(&[&str], u8, &[u8]); 27] = [
@@ -183,7 +182,11 @@ const WORDS: [(&[&str], u8, &[u8]); 27] = [
     (&["--nodes", "1", "--quantum", "64", "run"], 0, HELLO_REPORT),
     (&["--nodes", "1", "--journal", "9", "run"], 0, HELLO_REPORT),
     (&["--nodes", "1", "gen"], 0, WORK_SUMMARY),
-    (&["--nodes", "1", "--seed", "1", "--events", "gen"], 0, WORK_SUMMARY),
+    (
+        &["--nodes", "1", "--seed", "1", "--events", "gen"],
+        0,
+        WORK_SUMMARY,
+    ),
     (&["--nodes", "1", "asm"], 11, b"bad source 1 2\n"),
 ];
 
