@@ -307,11 +307,12 @@ module _ (policy : Policy) (chance : Stream) (form : Form) {S I O : Type 0} (set
 module _ (policy : Policy) (chance : Stream) {O : Type 0} (settings : Settings) (sink : Seen O (List ℕ)) where
   module _ (text : List ℕ) (files : List NamedFile) where
     -- the images stayed as they were, and never fail
-    pub work_told : (now : List NamedFile) (given : List ℕ) (orders : List ScriptLine) (ended : Ended) → given ≡ text → IsScriptOf settings.nodes (Some given) orders → ◌≡◌ {A = Option (List NamedFile)} (Some now) (Some files)
-        → TellsOrders policy chance Summary settings orders (seen {T = List NamedFile} (λ x. Some x) (λ x. 0) files now) sink ended.run ended.why → ScriptAnswers policy chance Summary settings (kept text) (kept files) sink ended
-    work_told now given orders ended same s stays t =
+    pub work_told : (held now : List NamedFile) (given : List ℕ) (orders : List ScriptLine) (ended : Ended) → given ≡ text → held ≡ files → IsScriptOf settings.nodes (Some given) orders → ◌≡◌ {A = Option (List NamedFile)} (Some now) (Some held)
+        → TellsOrders policy chance Summary settings orders (seen {T = List NamedFile} (λ x. Some x) (λ x. 0) held now) sink ended.run ended.why → ScriptAnswers policy chance Summary settings (kept text) (kept files) sink ended
+    work_told held now given orders ended same at s stays t =
         answers_told policy chance Summary settings (kept text) (kept files) sink orders ended (subst (λ x. IsScriptOf settings.nodes (Some x) orders) same s)
-        (subst (λ x. TellsOrders policy chance Summary settings orders (seen {T = List NamedFile} (λ x. Some x) (λ x. 0) files x) sink ended.run ended.why) (let e : now ≡ files = cc in e) t)
+        (subst (λ x. TellsOrders policy chance Summary settings orders (kept x) sink ended.run ended.why) at
+        (subst (λ x. TellsOrders policy chance Summary settings orders (seen {T = List NamedFile} (λ y. Some y) (λ y. 0) held x) sink ended.run ended.why) (let e : now ≡ held = cc in e) t))
 
     pub work_unread : (given : List ℕ) (why : Why) (ended : Ended) → given ≡ text → ended.run ≡ None → ((ended.why ≡ why) ⊎ (ended.why ≡ NoMemory)) → IsUnread settings.nodes (Some given) why → (why ≡ ReadFault → ⊥)
         → WritesLine sink (line_of ended.why) → ScriptAnswers policy chance Summary settings (kept text) (kept files) sink ended

@@ -194,7 +194,7 @@ fn answer_settings<
     gate: &G,
     policy: &Policy<P>,
 ) -> Ended
-    requires { IsInRange settings.now }
+    requires range { IsInRange settings.now }
     ensures status { result.status ≡ status_of result.why }
     ensures answers { AnswersIn (given_by (P.answers policy.now)) (R.stream rng.old) settings.now.mode settings.now (seen S.left S.faults script.old script.new) (seen I.files I.faults images.old images.new) (seen O.written O.faults out.old out.new) result }
 {

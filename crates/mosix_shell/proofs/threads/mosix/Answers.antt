@@ -7,8 +7,8 @@ use Rattle.mosix_shell.proofs.Causing.{write_cause}
 use Rattle.mosix_shell.proofs.Ranges.{in_range}
 use Rattle.mosix_shell.proofs.threads.mosix.Goals as goal
 
-pub answer_settings-requires : goal.answer_settings-requires
-answer_settings-requires g c = in_range c.args.words.now c.in-Ok.settings c.in-Ok.ensures.ok
+pub answer_settings-requires-clause-range : goal.answer_settings-requires-clause-range
+answer_settings-requires-clause-range g c = λ w v. in_range c.args.words.now c.in-Ok.settings c.in-Ok.ensures.ok
 
 pub returns-in-Ok-clause-write : goal.returns-in-Ok-clause-write
 returns-in-Ok-clause-write g c =
