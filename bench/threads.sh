@@ -1,0 +1,51 @@
+#!/usr/bin/env bash
+# Spinning programs, eight a node, on threads beside the same run on one thread, by the clock; and what the nodes that have nothing to do burn meanwhile:
+#   bench/threads.sh [PROGRAM]
+# It measures PROGRAM, or crates/mosixsim/out/mosixsim, which ./prove builds. The best of three runs counts.
+set -euo pipefail
+program=$(readlink -f "${1:-$(dirname "$0")/../crates/mosixsim/out/mosixsim}")
+exec python3 - "$program" <<'PYTHON'
+import os, subprocess, sys, tempfile, time
+
+PROGRAM = sys.argv[1]
+ROUNDS, EACH = 30_000_000, 8
+
+# so many rounds of two instructions
+SPIN = "li s0, {0}\nl: addi s0, s0, -1\nbne s0, x0, l\nli a0, 0\nsys 1\n"
+
+
+def run(words, script):
+    """The seconds by the clock and of processors of a run, and what it wrote."""
+    before, start = os.times(), time.monotonic()
+    done = subprocess.run([PROGRAM, *words.split()], input=script.encode(), capture_output=True)
+    seconds, after = time.monotonic() - start, os.times()
+    return seconds, after.children_user + after.children_system - before.children_user - before.children_system, done.stdout
+
+
+def best(words, script):
+    return min(run(words, script)[:2] for _ in range(3))
+
+
+def script_for(nodes):
+    """So many programs for each node, moved there."""
+    pids = range(1, EACH * nodes + 1)
+    return "".join("run spin\n" for _ in pids) + "".join(f"move {pid} {pid % nodes}\n" for pid in pids)
+
+
+def main():
+    print(f"{os.cpu_count()} processors")
+    with open("spin", "wb") as file:
+        file.write(run("asm", SPIN.format(ROUNDS))[2])
+    for nodes in [1, 2, 4, 8]:
+        script = script_for(nodes)
+        serial, _ = best(f"--nodes {nodes} --serial run", script)
+        threads, _ = best(f"--nodes {nodes} run", script)
+        print(f"{EACH * nodes} programs on {nodes} nodes: {serial:.2f} seconds on one thread, {threads:.2f} on threads, ratio {serial / threads:.2f}")
+    seconds, burnt = best("--nodes 8 run", "run spin\n")
+    print(f"one program on eight nodes: {seconds:.2f} seconds by the clock, {burnt:.2f} of processors")
+
+
+with tempfile.TemporaryDirectory() as folder:
+    os.chdir(folder)
+    main()
+PYTHON
