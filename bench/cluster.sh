@@ -9,7 +9,7 @@ exec python3 - "$program" <<'PYTHON'
 import os, re, subprocess, sys, tempfile
 
 PROGRAM = sys.argv[1]
-ROUNDS, MOVES = 5_000_000, 499
+ROUNDS, MOVES = 30_000_000, 499
 
 # so many calls that home serves
 CALLS = "li s0, {0}\nl: sys 3\naddi s0, s0, -1\nbne s0, x0, l\nli a0, 0\nsys 1\n"
