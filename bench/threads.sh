@@ -1,5 +1,6 @@
 #!/usr/bin/env bash
-# Spinning programs, eight a node, on threads beside the same run on one thread, by the clock; and what the nodes that have nothing to do burn meanwhile:
+# Spinning programs, eight a node, on threads beside the same run on one thread and beside as many runs of one node each at once, which is what the machine can give,
+# by the clock; and what the nodes that have nothing to do burn meanwhile:
 #   bench/threads.sh [PROGRAM]
 # It measures PROGRAM, or crates/mosixsim/out/mosixsim, which ./prove builds. The best of three runs counts.
 set -euo pipefail
@@ -26,6 +27,20 @@ def best(words, script):
     return min(run(words, script)[:2] for _ in range(3))
 
 
+def at_once(count):
+    """The seconds by the clock of so many runs of one node at once, the best of three."""
+    def one():
+        start = time.monotonic()
+        runs = [subprocess.Popen([PROGRAM, "--nodes", "1", "--serial", "run"], stdin=subprocess.PIPE, stdout=subprocess.DEVNULL) for _ in range(count)]
+        for each in runs:
+            each.stdin.write(("run spin\n" * EACH).encode())
+            each.stdin.close()
+        for each in runs:
+            each.wait()
+        return time.monotonic() - start
+    return min(one() for _ in range(3))
+
+
 def script_for(nodes):
     """So many programs for each node, moved there."""
     pids = range(1, EACH * nodes + 1)
@@ -40,7 +55,8 @@ def main():
         script = script_for(nodes)
         serial, _ = best(f"--nodes {nodes} --serial run", script)
         threads, _ = best(f"--nodes {nodes} run", script)
-        print(f"{EACH * nodes} programs on {nodes} nodes: {serial:.2f} seconds on one thread, {threads:.2f} on threads, ratio {serial / threads:.2f}")
+        apart = at_once(nodes)
+        print(f"{EACH * nodes} programs on {nodes} nodes: {serial:.2f} seconds on one thread, {threads:.2f} on threads, ratio {serial / threads:.2f}; as {nodes} runs at once {apart:.2f}")
     seconds, burnt = best("--nodes 8 run", "run spin\n")
     print(f"one program on eight nodes: {seconds:.2f} seconds by the clock, {burnt:.2f} of processors")
 
