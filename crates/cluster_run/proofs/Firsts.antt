@@ -19,6 +19,7 @@ use Rattle.node_core.specs.declared.shape.Shape.{Shape}
 use Rattle.node_core.specs.declared.node.Node.{Node}
 use Rattle.node_core.specs.Making.{new_node, new_course}
 use Rattle.node_core.specs.Locals.{local, post_of, slot_with, believed_of, progress_of}
+use Rattle.node_core.proofs.Alone.{fresh_node}
 use Rattle.node_core.proofs.Starting.{new_suits_of}
 use Rattle.cluster_run.specs.declared.seat.Seat.{Seat}
 use Rattle.cluster_run.specs.declared.seat.Rest.{Rest}
@@ -28,23 +29,7 @@ use Rattle.cluster_run.specs.Seats.{bound, waiting, Found, Ready}
 use Rattle.cluster_run.specs.Over.{IsFirst}
 use Rattle.cluster_run.proofs.Living.{nothing_if}
 
-no_row : (q : ℕ) → at_pid {A = Row} [] q ≡ None
-no_row zero = refl
-no_row (suc i) = refl
-
 module _ (policy : Policy) (plan : Plan) where
-  pub fresh_node : (k : ℕ) (shape : Shape) (script : List ScriptLine) (users : List UserState) → Fresh (machine policy plan) k (local policy plan (new_node k shape script users))
-  fresh_node k shape script users = record {
-    clock = refl;
-    slots = λ p. ap (λ (need : Option ℕ). slot_with policy plan None need (at_pid [] p)) (fin_map.get-empty nat_cmp p) ∙ ap (λ (row : Option Row). slot_with policy plan None None row) (no_row p);
-    gossip = refl;
-    home = λ e. record {
-      kernel = refl;
-      progress = ap (λ (f : ℕ → ℕ). record { line = 0; done = 0; launched = []; served = f }) (fun_ext (λ q. ap served_of (no_row q)));
-      believed = λ p. ap believed_of (no_row p);
-    };
-  }
-
   pub ready_first : {C : Type 0} (puts gives : C → List Letter) (room k : ℕ) (s : Seat Node C) → IsFirst plan room k s.node → s.waits ≡ None → s.rest ≡ rested.Busy → ((m : ℕ) → towards puts s.side m ≡ []) → ((m : ℕ) → towards gives s.side m ≡ []) → Ready policy plan puts gives room k s
   ready_first puts gives room k s f waits rest none_put none_given = record {
     lives = record {

@@ -26,6 +26,7 @@ use Rattle.node_core.specs.Turns.{TurnsAs, Answers, strange_after, PassedOver, R
 use Rattle.node_core.specs.Turns as turns
 use Rattle.node_core.specs.Locals.{local, post_of, post_at, note_of}
 use Rattle.node_core.specs.Suits.{Suits}
+use Rattle.node_core.proofs.Alone.{line_reverse}
 use Rattle.node_core.proofs.Starting.{suits_out}
 use Rattle.cluster_run.specs.declared.seat.Seat.{Seat}
 use Rattle.cluster_run.specs.declared.seat.Rest.{Rest}
@@ -75,10 +76,6 @@ each_map P f (x ∷ xs) e = (e.0, each_map P f xs e.1)
 strange_same : (d : Deed) (count : ℕ) → IsUsual d → strange_after d count ≡ count
 strange_same (Strange p) count u = absurd u
 strange_same _ count u = refl
-
-line_reverse : (e : Noted) (what : Deed) → reverse (recorded e what) ≡ recorded e what
-line_reverse e (Strange p) = refl
-line_reverse e _ = refl
 
 module _ (policy : Policy) (plan : Plan) where
   pub map_bound : (m : ℕ) (ls : List Letter) → map (post_of policy plan) (bound m ls) ≡ posts_to (machine policy plan) m (map (post_of policy plan) ls)

@@ -30,3 +30,4 @@ pub mod Living
 pub mod Doing
 pub mod Deciding
 pub mod Answering
+pub mod Alone

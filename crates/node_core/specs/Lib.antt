@@ -10,3 +10,4 @@ pub mod Parts
 pub mod Moves
 pub mod Kinds
 pub mod Turning
+pub mod Alone

@@ -6,6 +6,7 @@ mod course;
 mod halves;
 mod kinds;
 mod landing;
+mod laws;
 mod letters;
 mod lines;
 mod moves;
@@ -17,6 +18,7 @@ mod sight;
 mod talk;
 mod turn;
 
+pub use laws::laws_of_turns;
 pub use node::Node;
 pub use outbox::Outbox;
 pub use shape::{Plan, Shape};
