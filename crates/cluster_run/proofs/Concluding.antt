@@ -2,6 +2,7 @@
 use Rattle.std.proofs.Common.{◌≡◌, ℕ, zero, suc, ◌<◌, ◌≤◌, ◌==◌, ◌++◌, ◌⊎◌, inl, inr, Bool, true, false, cond, Option, Some, None, List, [], ◌∷◌, refl, sym, ap, ◌∙◌, subst, arith, length, map, reverse, slice_get}
 use Rattle.std.specs.Prelude.{option_to_list}
 use Rattle.std.proofs.lemmas.List.{append-nil, length-reverse}
+use Rattle.call_table.specs.declared.limit.TheConstants.{NODES, JOURNAL}
 use Rattle.call_forward.specs.declared.letter.Letter.{Letter}
 use Rattle.node_event.specs.declared.event.Event.{Event}
 use Rattle.protocol.specs.Ops.{Ops, Sound}
@@ -58,7 +59,7 @@ usual_of policy plan [] n u = tt
 usual_of policy plan (Made t ∷ before) n u = (u.0, usual_of policy plan before n u.1)
 usual_of policy plan (Skipped a m ∷ before) n u = absurd n
 
-module _ (policy : Policy) (fit : IsFitting policy) (plan : Plan) (is_plan : IsPlan plan) {C : Type 0} (puts gives : C → List Letter) (pair : C → C → Type 0) (seats : List (Seat Node C)) (count : length seats ≡ plan.nodes) (most : length seats ≤ 8) (within : AreWithin plan.nodes seats) (es : List Event) (woven : AreWoven plan (map (λ (s : Seat Node C). s.node) seats) es) (room : ℕ) (hands : ℕ → Option Letter) (lives : (k : ℕ) (s : Seat Node C) → slice_get seats k ≡ Some s → LivesAt policy plan puts gives room k (hands k) s) (no_hand : (k : ℕ) → slice_get seats k ≡ None → hands k ≡ None) (none : Bool) (met : (a b : ℕ) → a < plan.nodes → b < plan.nodes → BothFront puts gives pair none a b seats) where
+module _ (policy : Policy) (fit : IsFitting policy) (plan : Plan) (is_plan : IsPlan plan) {C : Type 0} (puts gives : C → List Letter) (pair : C → C → Type 0) (seats : List (Seat Node C)) (count : length seats ≡ plan.nodes) (most : length seats ≤ NODES) (within : AreWithin plan.nodes seats) (es : List Event) (woven : AreWoven plan (map (λ (s : Seat Node C). s.node) seats) es) (room : ℕ) (hands : ℕ → Option Letter) (lives : (k : ℕ) (s : Seat Node C) → slice_get seats k ≡ Some s → LivesAt policy plan puts gives room k (hands k) s) (no_hand : (k : ℕ) → slice_get seats k ≡ None → hands k ≡ None) (none : Bool) (met : (a b : ℕ) → a < plan.nodes → b < plan.nodes → BothFront puts gives pair none a b seats) where
   nodes_count : length (map (λ (s : Seat Node C). s.node) seats) ≡ length seats
   nodes_count = length_map (λ (s : Seat Node C). s.node) seats
 
@@ -77,7 +78,7 @@ module _ (policy : Policy) (fit : IsFitting policy) (plan : Plan) (is_plan : IsP
   is_sound : Sound (machine policy plan)
   is_sound = sound policy fit plan is_plan
 
-  own_most : (k : ℕ) (o : Option (Seat Node C)) → slice_get seats k ≡ o → length (own_events k (all_noted plan.script es)) ≤ 1048576
+  own_most : (k : ℕ) (o : Option (Seat Node C)) → slice_get seats k ≡ o → length (own_events k (all_noted plan.script es)) ≤ JOURNAL
   own_most k None e = let n : length (own_events k (all_noted plan.script es)) ≡ 0 = ap length (beyond k e) in omega (arith, n)
   own_most k (Some s) e =
       let v = lives k s e in

@@ -1,5 +1,6 @@
 -- A list of events of few nodes has no more events than these nodes have.
 use Rattle.std.proofs.Common.{◌≡◌, ℕ, zero, suc, ◌+◌, ◌*◌, ◌<◌, ◌≤◌, ◌==◌, Bool, true, false, cond, List, [], ◌∷◌, refl, sym, ap, ◌∙◌, subst, arith, length}
+use Rattle.call_table.specs.declared.limit.TheConstants.{NODES, JOURNAL}
 use Rattle.protocol.specs.Deeds.{Noted}
 use Rattle.protocol.proofs.Talk.{numbers_other}
 use Rattle.run_laws.specs.Carried.{Each, own_events}
@@ -33,9 +34,9 @@ length_total : (n : ℕ) (es : List Noted) → Each (λ (e : Noted). e.node < n)
 length_total n [] low = omega arith
 length_total n (e ∷ es) low = let r = length_total n es low.1 in let m = total_more n e es low.0 in omega (arith, r, m)
 
-total_most : (n : ℕ) (es : List Noted) → ((k : ℕ) → length (own_events k es) ≤ 1048576) → total n es ≤ n * 1048576
+total_most : (n : ℕ) (es : List Noted) → ((k : ℕ) → length (own_events k es) ≤ JOURNAL) → total n es ≤ n * JOURNAL
 total_most zero es most = omega arith
 total_most (suc n) es most = let r = total_most n es most in let m = most n in omega (arith, r, m)
 
-pub few_events : (n : ℕ) (es : List Noted) → n ≤ 8 → Each (λ (e : Noted). e.node < n) es → ((k : ℕ) → length (own_events k es) ≤ 1048576) → length es < 4294967295
+pub few_events : (n : ℕ) (es : List Noted) → n ≤ NODES → Each (λ (e : Noted). e.node < n) es → ((k : ℕ) → length (own_events k es) ≤ JOURNAL) → length es < 4294967295
 few_events n es few low most = let a = length_total n es low in let b = total_most n es most in omega (arith, a, b, few)

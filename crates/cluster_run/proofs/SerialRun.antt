@@ -1,5 +1,6 @@
 -- The serial runner, from the nodes and carriers that it was given to the nodes that come back.
 use Rattle.std.proofs.Common.{◌≡◌, ℕ, zero, suc, ◌<◌, ◌≤◌, ◌++◌, Some, List, [], ◌∷◌, refl, sym, ap, ◌∙◌, subst, arith, length, map, slice_get, take}
+use Rattle.call_table.specs.declared.limit.TheConstants.{NODES}
 use Rattle.call_forward.specs.declared.letter.Letter.{Letter}
 use Rattle.node_links.specs.Sides.{InPairs, EachIs, IsFresh}
 use Rattle.node_links.specs.declared.side.Towards.{Towards}
@@ -31,7 +32,7 @@ module _ {C : Type 0} (pair : C → C → Type 0) (last : ℕ) (nodes : List Nod
   seated_count = ap length is ∙ seats_count last nodes carriers (sym pairs.count)
 
   module _ (puts gives : C → List Letter) (total : C → ℕ) (fresh : EachIs (IsFresh puts gives total) carriers) (policy : Policy) (why : OverWhy) (new : List (Seat Node C)) (over : AreOver policy puts gives why seats new) (out : List Node) (out_is : out ≡ map node_of new) where
-    pub serial_ran : 1 ≤ length nodes → length nodes ≤ 8 → (plan : Plan) (room : ℕ) → Begins plan room nodes → IsFitting policy → Ran policy plan room why out
+    pub serial_ran : 1 ≤ length nodes → length nodes ≤ NODES → (plan : Plan) (room : ℕ) → Begins plan room nodes → IsFitting policy → Ran policy plan room why out
     serial_ran least most plan room begins fit =
         let g = seat_at nodes 0 (omega (arith, least)) in
         let is_plan : IsPlan plan = (begins.each 0 g.0 g.1).beginning.is_plan in

@@ -1,5 +1,6 @@
 -- A run in which nothing is left to be done is done or stuck.
 use Rattle.std.proofs.Common.{◌≡◌, ℕ, zero, suc, ◌+◌, ◌<◌, ◌≤◌, ◌==◌, ◌++◌, ◌⊎◌, inl, inr, Bool, true, false, cond, Option, Some, None, List, [], ◌∷◌, refl, sym, ap, ◌∙◌, subst, arith, length, map, slice_get}
+use Rattle.call_table.specs.declared.limit.TheConstants.{NODES}
 use Rattle.call_forward.specs.declared.letter.Letter.{Letter}
 use Rattle.node_event.specs.declared.event.Event.{Event}
 use Rattle.protocol.specs.Deeds.{all_noted}
@@ -67,7 +68,7 @@ places_are policy plan {C} puts gives room hands seats lives k n e =
     let v = lives k g.0 g.1 in
     subst (λ (x : Node). (x.id ≡ k) × (length x.journal.events ≤ room)) g.2 (v.id, v.fits)
 
-module _ (policy : Policy) (fit : IsFitting policy) (plan : Plan) (is_plan : IsPlan plan) {C : Type 0} (puts gives : C → List Letter) (pair : C → C → Type 0) (seats : List (Seat Node C)) (count : length seats ≡ plan.nodes) (most : length seats ≤ 8) (within : AreWithin plan.nodes seats) (room : ℕ) (ready : AllReady policy puts gives plan room seats) (still : AreStill puts gives pair plan.nodes seats) where
+module _ (policy : Policy) (fit : IsFitting policy) (plan : Plan) (is_plan : IsPlan plan) {C : Type 0} (puts gives : C → List Letter) (pair : C → C → Type 0) (seats : List (Seat Node C)) (count : length seats ≡ plan.nodes) (most : length seats ≤ NODES) (within : AreWithin plan.nodes seats) (room : ℕ) (ready : AllReady policy puts gives plan room seats) (still : AreStill puts gives pair plan.nodes seats) where
   lives : (k : ℕ) (s : Seat Node C) → slice_get seats k ≡ Some s → LivesAt policy plan puts gives room k None s
   lives k s e = (ready k s e).lives
 

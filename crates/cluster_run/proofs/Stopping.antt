@@ -3,6 +3,7 @@ use Rattle.std.proofs.Common.{◌≡◌, ◌≢◌, ℕ, zero, suc, ◌<◌, ◌
 use Rattle.std.specs.Prelude.{option_to_list}
 use Rattle.std.specs.Option.{option_map}
 use Rattle.std.proofs.lemmas.List.{append-nil, length-reverse}
+use Rattle.call_table.specs.declared.limit.TheConstants.{NODES}
 use Rattle.call_forward.specs.declared.letter.Letter.{Letter}
 use Rattle.node_event.specs.declared.event.Event.{Event}
 use Rattle.protocol.specs.Deeds.{Noted, noted, all_noted}
@@ -70,7 +71,7 @@ module _ (policy : Policy) (plan : Plan) {C : Type 0} (puts gives : C → List L
     pub below : (k : ℕ) → k < r → NoneComes puts gives pair nodes k seats
     pub empty : (k : ℕ) → k < r → hands k ≡ None
 
-module _ (policy : Policy) (fit : IsFitting policy) (plan : Plan) (is_plan : IsPlan plan) {C : Type 0} (puts gives : C → List Letter) (pair : C → C → Type 0) (seats : List (Seat Node C)) (count : length seats ≡ plan.nodes) (most : length seats ≤ 8) (within : AreWithin plan.nodes seats) (room : ℕ) (hands : ℕ → Option Letter) (r : ℕ) (least : IsLeast policy plan puts gives pair plan.nodes room hands r seats) (none : Bool) (met : (a b : ℕ) → a < plan.nodes → b < plan.nodes → BothFront puts gives pair none a b seats) where
+module _ (policy : Policy) (fit : IsFitting policy) (plan : Plan) (is_plan : IsPlan plan) {C : Type 0} (puts gives : C → List Letter) (pair : C → C → Type 0) (seats : List (Seat Node C)) (count : length seats ≡ plan.nodes) (most : length seats ≤ NODES) (within : AreWithin plan.nodes seats) (room : ℕ) (hands : ℕ → Option Letter) (r : ℕ) (least : IsLeast policy plan puts gives pair plan.nodes room hands r seats) (none : Bool) (met : (a b : ℕ) → a < plan.nodes → b < plan.nodes → BothFront puts gives pair none a b seats) where
   module _ (es : List Event) (woven : AreWoven plan (map (λ (s : Seat Node C). s.node) seats) es) where
     abbrev here : (k : ℕ) → Part policy plan puts gives seats (all_noted plan.script es) (hands k) k
     here = at policy fit plan is_plan puts gives pair seats count most within es woven room hands least.live.lives least.live.none none met

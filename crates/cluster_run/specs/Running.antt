@@ -1,5 +1,6 @@
 -- What a run makes of all seats.
 use Rattle.std.specs.Prelude.{◌≡◌, ℕ, ◌<◌, ◌≤◌, true, Option, Some, None, List, length, map, slice_get}
+use Rattle.call_table.specs.declared.limit.TheConstants.{NODES}
 use Rattle.call_forward.specs.declared.letter.Letter.{Letter}
 use Rattle.node_machine.specs.Plan.{Plan, IsPlan}
 use Rattle.node_machine.specs.Machine.{Policy}
@@ -25,7 +26,7 @@ why_of rested.Full = why.Stuck
 -- the run of seats that were ready is over
 abbrev pub AreOver : Policy → {C : Type 0} (puts gives : C → List Letter) → OverWhy → List (Seat Node C) → List (Seat Node C) → Type 0
 AreOver policy {C} puts gives why old new =
-    (plan : Plan) (room : ℕ) → IsPlan plan → IsFitting policy → length old ≡ plan.nodes → length old ≤ 8 → AreWithin plan.nodes old → AllReady policy puts gives plan room old → Ran policy plan room why (map (λ (s : Seat Node C). s.node) new)
+    (plan : Plan) (room : ℕ) → IsPlan plan → IsFitting policy → length old ≡ plan.nodes → length old ≤ NODES → AreWithin plan.nodes old → AllReady policy puts gives plan room old → Ran policy plan room why (map (λ (s : Seat Node C). s.node) new)
 
 pub record IsWhy {C : Type 0} (why : OverWhy) (seats : List (Seat Node C)) : Type 0 where
   pub home : Seat Node C
@@ -35,7 +36,7 @@ pub record IsWhy {C : Type 0} (why : OverWhy) (seats : List (Seat Node C)) : Typ
 -- the run of seats of which some found their journals full, the first at `at`, is over
 abbrev pub AreFull : Policy → {C : Type 0} (puts gives : C → List Letter) → ℕ → OverWhy → List (Seat Node C) → List (Seat Node C) → Type 0
 AreFull policy {C} puts gives at why old new =
-    (plan : Plan) (room : ℕ) → IsPlan plan → IsFitting policy → length old ≡ plan.nodes → length old ≤ 8 → AreWithin plan.nodes old → SomeFull policy puts gives plan room at old → Ran policy plan room why (map (λ (s : Seat Node C). s.node) new)
+    (plan : Plan) (room : ℕ) → IsPlan plan → IsFitting policy → length old ≡ plan.nodes → length old ≤ NODES → AreWithin plan.nodes old → SomeFull policy puts gives plan room at old → Ran policy plan room why (map (λ (s : Seat Node C). s.node) new)
 
 -- a node that stopped is one of so many
 abbrev pub IsWithin : ℕ → Passed → Type 0

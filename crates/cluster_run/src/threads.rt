@@ -1,5 +1,6 @@
 // The runner on threads.
 ghost use Rattle.std.specs.Prelude.{◌≡◌, ◌≤◌, ℕ, length, IfOk};
+ghost use Rattle.call_table.specs.declared.limit.TheConstants.{NODES};
 ghost use Rattle.node_links.specs.Sides.{InPairs, EachIs, IsFresh};
 ghost use Rattle.node_machine.specs.Plan.{Plan};
 ghost use Rattle.node_machine.specs.Policy.{IsFitting, given_by};
@@ -62,7 +63,7 @@ pub fn run_threads<
     policy: &Policy<P>,
 ) -> Result<Over<C>, NoMemory>
     requires least { 1 ≤ length nodes }
-    requires most { length nodes ≤ 8 }
+    requires most { length nodes ≤ NODES }
     requires pairs { InPairs C.pair (length nodes) carriers }
     requires fresh { EachIs (IsFresh C.puts C.gives C.total) carriers }
     ensures { IfOk result (λ over. (plan : Plan) (room : ℕ) → Begins plan room nodes → IsFitting (given_by (P.answers policy.now)) → Ran (given_by (P.answers policy.now)) plan room over.why over.nodes) }

@@ -26,10 +26,7 @@ module _ (policy : Policy) (plan : Plan) where
   took_by answers gives Did old new l suits t = took answers gives old new l suits t
   took_by answers gives Idle old new l suits t = absurd t
   took_by answers gives Finished old new l suits t = absurd t
-  took_by answers gives JournalFull old new l suits t = absurd t
-
-  pub full_answers : (old : Node) (l : Letter) → length old.journal.events ≡ old.journal.room → Answers policy plan JournalFull (Some l) old old
-  full_answers old l full = record { full = full; more = tt; same = refl }
+  took_by answers gives JournalFull old new l suits t = record { full = t.full; more = tt; same = t.same }
 
   idle : (old : Node) → Suits plan old → Picks None old → IsIdle (machine policy plan) old.id None (local policy plan old)
   idle old suits picks = record { letter = refl; rests = none_rests policy plan old suits picks }
@@ -42,8 +39,8 @@ module _ (policy : Policy) (plan : Plan) where
 
   went_by : (answers : Answerer) → Gives answers policy → (turned : Turned) (old new : Node) → Suits plan old → WentOn answers turned old new → Answers policy plan turned None old new
   went_by answers gives Did old new suits w = inl (went_turn policy plan answers gives old new suits w)
-  went_by answers gives Idle old new suits (inr lacks) = absurd (none_lacks policy plan old suits lacks)
-  went_by answers gives Idle old new suits (inl (picks, more, same)) = record { idle = idle old suits picks; more = λ f. more (law_done old suits f); same = same }
+  went_by answers gives Idle old new suits (inr lacks, same) = absurd (none_lacks policy plan old suits lacks)
+  went_by answers gives Idle old new suits (inl (picks, more), same) = record { idle = idle old suits picks; more = λ f. more (law_done old suits f); same = same }
   went_by answers gives Finished old new suits (picks, done, same) = record { finished = record { idle = idle old suits picks; home = done.home; finished = done_law old suits done }; same = same }
   went_by answers gives JournalFull old new suits (some, full, same) = record { full = full; more = some_applies policy plan old some.0 suits some.1; same = same }
 

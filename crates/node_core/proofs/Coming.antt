@@ -32,7 +32,8 @@ use Rattle.node_core.specs.declared.node.Node.{Node}
 use Rattle.node_core.specs.Locals.{local, slot_with, slot_of, context_of, note_of}
 use Rattle.node_core.specs.Suits.{SuitsAt, Suits}
 use Rattle.node_core.specs.Kinds.{IsStrange, Says, is_stray}
-use Rattle.node_core.specs.Moves.{may_come, free_at, allowed, denied, Reserves, AnswersAsk, Decides, HearsAsk, may_land, landings, LandsHere, HearsMove}
+use Rattle.node_core.specs.Sight.{free_of}
+use Rattle.node_core.specs.Moves.{may_come, allowed, denied, Reserves, AnswersAsk, Decides, HearsAsk, may_land, landings, LandsHere, HearsMove}
 use Rattle.node_core.proofs.Settling.{Acts, Hears, Fits, Misfits, at_clock}
 use Rattle.node_core.proofs.Slots.{cond_same}
 use Rattle.node_core.proofs.Using.{in_use, reserved_here, reserved_is}
@@ -170,12 +171,12 @@ module _ (policy : Policy) (plan : Plan) where
   abbrev AreCounted : Node → Type 0
   AreCounted n = (k : ℕ) → IsPast k n.hosted → pages_here n.hosted ≡ sum_to k (λ q. counts pages_of (lookup q n.hosted))
 
-  free_here : (old : Node) → Suits plan old → free_at old ≡ plan.cap - (pages_here old.hosted + reserved_pages old.reserve)
+  pub free_here : (old : Node) → Suits plan old → free_of old ≡ plan.cap - (pages_here old.hosted + reserved_pages old.reserve)
   free_here old suits =
       let cap : old.shape.cap ≡ plan.cap = suits.shape.cap in
       ap (λ (c : ℕ). c - min (pages_here old.hosted) (2 ^ 32 - 1) - reserved_pages old.reserve) cap ∙ free_is plan.cap (pages_here old.hosted) (reserved_pages old.reserve) suits.shape.most_pages
 
-  allowed_acts : (old : Node) (stamp from sent p need : ℕ) → Suits plan old → stamp ≤ stamp_end + (length old.journal.events + 1) → AreCounted old → need ≤ free_at old
+  allowed_acts : (old : Node) (stamp from sent p need : ℕ) → Suits plan old → stamp ≤ stamp_end + (length old.journal.events + 1) → AreCounted old → need ≤ free_of old
       → Acts policy plan stamp (Some (ask_post old from sent p need)) (allowed p from need) old (record old { reserve = fin_map.insert old.reserve p need })
   allowed_acts old stamp from sent p need suits early pages room = record {
     usual = tt;
@@ -191,8 +192,8 @@ module _ (policy : Policy) (plan : Plan) where
     suits = suits_kept old old.hosted (fin_map.insert old.reserve p need) stamp early suits;
   }
 
-  denied_acts : (old : Node) (stamp from sent p need : ℕ) → Suits plan old → stamp ≤ stamp_end + (length old.journal.events + 1) → AreCounted old → free_at old < need
-      → Acts policy plan stamp (Some (ask_post old from sent p need)) (denied p from need (free_at old)) old old
+  denied_acts : (old : Node) (stamp from sent p need : ℕ) → Suits plan old → stamp ≤ stamp_end + (length old.journal.events + 1) → AreCounted old → free_of old < need
+      → Acts policy plan stamp (Some (ask_post old from sent p need)) (denied p from need (free_of old)) old old
   denied_acts old stamp from sent p need suits early pages short = record {
     usual = tt;
     does = record {
@@ -210,15 +211,15 @@ module _ (policy : Policy) (plan : Plan) where
 
   decided_acts : (old mid : Node) (stamp from sent p need : ℕ) (acted : Acted) → Suits plan old → stamp ≤ stamp_end + (length old.journal.events + 1) → Decides p from need acted old mid
       → Acts policy plan stamp (Some (ask_post old from sent p need)) acted old mid
-  decided_acts old mid stamp from sent p need acted suits early d = go (nat_lt (free_at old) need) refl d.does
+  decided_acts old mid stamp from sent p need acted suits early d = go (nat_lt (free_of old) need) refl d.does
     where
-      go : (b : Bool) → nat_lt (free_at old) need ≡ b → AnswersAsk (cond b (decided.Deny need (free_at old)) decided.Allow) p from need acted old mid → Acts policy plan stamp (Some (ask_post old from sent p need)) acted old mid
+      go : (b : Bool) → nat_lt (free_of old) need ≡ b → AnswersAsk (cond b (decided.Deny need (free_of old)) decided.Allow) p from need acted old mid → Acts policy plan stamp (Some (ask_post old from sent p need)) acted old mid
       go true e s =
           subst (λ (w : Acted). Acts policy plan stamp (Some (ask_post old from sent p need)) w old mid) (sym s.acted_is)
-          (subst (λ (m : Node). Acts policy plan stamp (Some (ask_post old from sent p need)) (denied p from need (free_at old)) old m) (sym s.same) (denied_acts old stamp from sent p need suits early d.pages (lower_is (free_at old) need e)))
+          (subst (λ (m : Node). Acts policy plan stamp (Some (ask_post old from sent p need)) (denied p from need (free_of old)) old m) (sym s.same) (denied_acts old stamp from sent p need suits early d.pages (lower_is (free_of old) need e)))
       go false e r =
           subst (λ (w : Acted). Acts policy plan stamp (Some (ask_post old from sent p need)) w old mid) (sym r.acted_is)
-          (subst (λ (m : Node). Acts policy plan stamp (Some (ask_post old from sent p need)) (allowed p from need) old m) (sym r.rest) (allowed_acts old stamp from sent p need suits early d.pages (lower_not (free_at old) need e)))
+          (subst (λ (m : Node). Acts policy plan stamp (Some (ask_post old from sent p need)) (allowed p from need) old m) (sym r.rest) (allowed_acts old stamp from sent p need suits early d.pages (lower_not (free_of old) need e)))
 
   -- a pid that home never gave
   stray_is : (old : Node) (p : ℕ) → is_stray old (Some p) ≡ true → (old.id ≡ 0) × NeverGiven (machine policy plan) old.deputies.kernel p

@@ -38,14 +38,14 @@ use Rattle.node_core.specs.Rotation.{picked, rotated}
 use Rattle.node_core.specs.Turns.{settled_in}
 use Rattle.node_core.specs.Kinds.{BeginsMove, IsReady, IsStrange, OnHosted, HearsHere, HearsReply, GoActs, answer_at, is_misplaced, is_stray, stepped, ContextActs, RunsContext, TaskActs, LineActs, RetriesSome, RunsSome, TasksSome, task_at, CarriesOut, CarriesSome, Launches, advanced}
 use Rattle.node_core.specs.Kinds as kinds
-use Rattle.node_core.specs.Sight.{Answerer, AreCounted, own_entry}
+use Rattle.node_core.specs.Sight.{Answerer, AreCounted, free_of, own_entry}
 use Rattle.node_core.specs.Halves.{BeginsChosen, ActsOnChoice, Follows, SendsHalf, HearsHalf, target_of, chance_after, told_talk, heard_talk, told_half, told_heard}
 use Rattle.load_gossip.specs.Vectors.{renewed}
 use Rattle.node_event.specs.declared.event.What.{What}
 use Rattle.migrate_proto.specs.declared.reserve.Decision.{Decision}
 use Rattle.migrate_proto.specs.declared.reserve.Decision.TheVariants as decided
 use Rattle.migrate_proto.specs.Reservations.{decision}
-use Rattle.node_core.specs.Moves.{may_come, free_at, AnswersAsk, Decides, asked_of, AllowedFor, DeniedFor, may_land, landings, LandsHere}
+use Rattle.node_core.specs.Moves.{may_come, AnswersAsk, Decides, asked_of, AllowedFor, DeniedFor, may_land, landings, LandsHere}
 use Rattle.node_core.specs.Turning.{is_odd, IsStamp, HearsAny, Heard, Passed, Lacks, Went, WentOn}
 
 -- ---- a move begins
@@ -140,7 +140,7 @@ decided_keeps decided.Allow pid from need acted old mid r = record { journal = a
 decided_keeps (decided.Deny wanted free) pid from need acted old mid s = same_keeps old mid s.same
 
 ask_keeps : (b : Bool) (from pid need : ℕ) (acted : Acted) (old mid : Node) → MatchBool b (Decides pid from need acted old mid) (IsStrange acted old mid) → Keeps old mid
-ask_keeps true from pid need acted old mid d = decided_keeps (decision need (free_at old)) pid from need acted old mid d.does
+ask_keeps true from pid need acted old mid d = decided_keeps (decision need (free_of old)) pid from need acted old mid d.does
 ask_keeps false from pid need acted old mid s = same_keeps old mid s.same
 
 allow_keeps : (o : Option (Option ℕ)) (from pid : ℕ) (acted : Acted) (old mid : Node) → AllowedFor o from pid acted old mid → Keeps old mid
@@ -269,7 +269,7 @@ pub lacks_is : (answers : Answerer) (old mid : Node) (k : Kind) (ready : Ready) 
     → CarriesSome answers stamp k ready.context acted old mid → WentOn answers turned.Idle old mid
 lacks_is answers old mid k ready stamp acted is picks most none carries =
     let fails = subst (λ (o : Option Acted). CarriesSome answers stamp k ready.context o old mid) none carries in
-    inr (record { kind = k; picks = record { ready = ready; is = is; picked = picks; most = most }; fails = fails.0 })
+    (inr (record { kind = k; picks = record { ready = ready; is = is; picked = picks; most = most }; fails = fails.0 }), fails.1)
 
 pub carried_retry : (answers : Answerer) (stamp : ℕ) (context : Option ℕ) (acted : Option Acted) (old mid : Node) → RetriesSome acted old mid → CarriesSome answers stamp kind.Retry context acted old mid
 carried_retry answers stamp context None old mid r = r

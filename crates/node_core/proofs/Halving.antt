@@ -45,6 +45,7 @@ use Rattle.node_core.proofs.Slots.{cond_same, slots_put}
 use Rattle.node_core.proofs.Contexts.{runs_here}
 use Rattle.node_core.proofs.Growing.{contexts_here}
 use Rattle.node_core.proofs.Using.{past_contexts, in_use, sum_words, sum_same}
+use Rattle.node_core.proofs.Coming.{free_here}
 use Rattle.node_core.proofs.Growing.{same_count}
 use Rattle.node_core.proofs.Seeing.{law_movable, law_choice, can_move, sight_is, choice_back}
 
@@ -172,11 +173,8 @@ module _ (policy : Policy) (plan : Plan) where
   abbrev pub used_of : Node → ℕ
   used_of n = pages_here n.hosted + reserved_pages n.reserve
 
-  free_is : (cap pages kept : ℕ) → cap ≤ 65536 → cap - min pages (2 ^ 32 - 1) - kept ≡ cap - (pages + kept)
-  free_is cap pages kept h = omega (arith, h)
-
   pub free_known : (old : Node) → Suits plan old → free_of old ≡ plan.cap - used_of old
-  free_known old suits = ap (λ (c : ℕ). c - min (pages_here old.hosted) (2 ^ 32 - 1) - reserved_pages old.reserve) suits.shape.cap ∙ free_is plan.cap (pages_here old.hosted) (reserved_pages old.reserve) suits.shape.most_pages
+  free_known old suits = free_here policy plan old suits
 
   pub used_here : (old : Node) → AreCounted old.hosted → InUse (machine policy plan) (local policy plan old) (used_of old)
   used_here old counted = in_use policy plan old counted.pages

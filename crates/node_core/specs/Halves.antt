@@ -13,6 +13,7 @@ use Rattle.mem_usher.specs.declared.sight.Choice as choice_row
 use Rattle.remote_ctx.specs.Hosted.{Changes, pages_of}
 use Rattle.remote_ctx.specs.Acting.{asking}
 use Rattle.protocol.specs.Gossip.{other_at}
+use Rattle.node_core.specs.declared.halves.TheConstants.{QUANTA}
 use Rattle.node_core.specs.declared.talk.Talk.{Talk}
 use Rattle.node_core.specs.declared.node.Node.{Node}
 use Rattle.node_core.specs.Sight.{Answerer, load_of, free_of, own_entry, AreCounted, Chooses}
@@ -26,9 +27,9 @@ has_others n = nat_le 2 n.shape.nodes
 abbrev pub in_first_round : Node → Bool
 in_first_round n = nat_lt n.talk.sent (n.shape.nodes - 1)
 
--- sixteen quanta of steps went since the last one
+-- the most quanta of steps that may go between two halves went since the last one
 abbrev pub is_late : Node → Bool
-is_late n = nat_le 16 n.talk.steps
+is_late n = nat_le QUANTA n.talk.steps
 
 -- load or free pages are not those last told
 abbrev pub has_news : Node → Bool

@@ -80,21 +80,41 @@ GoActs answer.Missed pid to hops line acted old mid = Says (missed pid to hops l
 abbrev pub answer_at : Node → ℕ → ℕ → GoAnswer
 answer_at n pid to = go_answer (option_map state_of (lookup pid n.hosted)) (holds_for has_kept (lookup pid n.hosted)) n.id to
 
+-- a message is about a call or a signal
+abbrev pub is_of_calls : Message → Bool
+is_of_calls (message.Call pid request) = true
+is_of_calls (message.Pause pid room) = true
+is_of_calls (message.Reply pid done) = true
+is_of_calls (message.Poke pid) = true
+is_of_calls _ = false
+
+-- or about a move; any other is a half
+abbrev pub is_of_moves : Message → Bool
+is_of_moves (message.Half places) = false
+is_of_moves m = not (is_of_calls m)
+
+abbrev pub HearsCall : ℕ → Message → Acted → Node → Node → Type 0
+HearsCall from (message.Call pid request) acted old mid = (length old.deputies.rows ≡ given old.deputies.kernel) × OnHome (called_in old.deputies from pid request) acted old mid
+HearsCall from (message.Pause pid room) acted old mid = OnHome (paused_in old.deputies from pid room) acted old mid
+HearsCall from (message.Reply pid done) acted old mid = HearsReply pid done acted old mid
+HearsCall from (message.Poke pid) acted old mid = OnHosted (PokedOn acted pid) old mid
+HearsCall from _ acted old mid = ⊥
+
+abbrev pub HearsOfMove : ℕ → Message → Acted → Node → Node → Type 0
+HearsOfMove from (message.Go pid to hops line) acted old mid = GoActs (answer_at old pid to) pid to hops line acted old mid
+HearsOfMove from (message.NotHere pid to hops line) acted old mid = OnHome (missed_in old.deputies pid to hops line) acted old mid
+HearsOfMove from (message.NoMove line) acted old mid = Says (closed_acted line) acted old mid
+HearsOfMove from (message.Ask pid need) acted old mid = HearsAsk from pid need acted old mid
+HearsOfMove from (message.Allow pid) acted old mid = HearsAllow from pid acted old mid
+HearsOfMove from (message.Deny pid need free) acted old mid = HearsDeny from pid need free acted old mid
+HearsOfMove from (message.Move pid user hops line) acted old mid = HearsMove from pid user hops line acted old mid
+HearsOfMove from (message.Landed pid source hops line) acted old mid = HearsLanded from pid source hops line acted old mid
+HearsOfMove from _ acted old mid = ⊥
+
 -- what a node makes of a message that is in its place, with an event of this stamp; a half from the node itself does not fit
 abbrev pub HearsHere : Answerer → ℕ → ℕ → Message → Acted → Node → Node → Type 0
-HearsHere answers stamp from (message.Call pid request) acted old mid = (length old.deputies.rows ≡ given old.deputies.kernel) × OnHome (called_in old.deputies from pid request) acted old mid
-HearsHere answers stamp from (message.Pause pid room) acted old mid = OnHome (paused_in old.deputies from pid room) acted old mid
-HearsHere answers stamp from (message.Reply pid done) acted old mid = HearsReply pid done acted old mid
-HearsHere answers stamp from (message.Poke pid) acted old mid = OnHosted (PokedOn acted pid) old mid
-HearsHere answers stamp from (message.Go pid to hops line) acted old mid = GoActs (answer_at old pid to) pid to hops line acted old mid
-HearsHere answers stamp from (message.NotHere pid to hops line) acted old mid = OnHome (missed_in old.deputies pid to hops line) acted old mid
-HearsHere answers stamp from (message.NoMove line) acted old mid = Says (closed_acted line) acted old mid
-HearsHere answers stamp from (message.Ask pid need) acted old mid = HearsAsk from pid need acted old mid
-HearsHere answers stamp from (message.Allow pid) acted old mid = HearsAllow from pid acted old mid
-HearsHere answers stamp from (message.Deny pid need free) acted old mid = HearsDeny from pid need free acted old mid
-HearsHere answers stamp from (message.Move pid user hops line) acted old mid = HearsMove from pid user hops line acted old mid
-HearsHere answers stamp from (message.Landed pid source hops line) acted old mid = HearsLanded from pid source hops line acted old mid
 HearsHere answers stamp from (message.Half places) acted old mid = MatchBool (from == old.id) (IsStrange acted old mid) (HearsHalf answers stamp from places acted old mid)
+HearsHere answers stamp from m acted old mid = MatchBool (is_of_calls m) (HearsCall from m acted old mid) (HearsOfMove from m acted old mid)
 
 -- ---- a call that was held
 

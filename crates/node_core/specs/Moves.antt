@@ -14,23 +14,20 @@ use Rattle.user_spec.specs.User.{UserState}
 use Rattle.kernel_spec.specs.Kernel.{given}
 use Rattle.migrate_proto.specs.declared.reserve.Decision.{Decision}
 use Rattle.migrate_proto.specs.declared.reserve.Decision.TheVariants as decided
-use Rattle.migrate_proto.specs.Reservations.{decision, reserved_pages}
+use Rattle.migrate_proto.specs.Reservations.{decision}
 use Rattle.remote_ctx.specs.declared.context.Stance.TheVariants.{Running}
 use Rattle.remote_ctx.specs.Hosted.{lookup, state_of, pages_of, pages_here, IsPast, sum_to, counts, Puts, Changes}
 use Rattle.remote_ctx.specs.Acting.{fresh, standing_as, Leaves}
 use Rattle.deputy.specs.Moves.{landed_in}
 use Rattle.node_core.specs.declared.node.Node.{Node}
+use Rattle.node_core.specs.Sight.{free_of}
 use Rattle.node_core.specs.Parts.{OnHome, IsStrange, Says, is_stray}
 
 -- ---- a process asks for room
 
--- it is not here, nothing is kept for it, home knows of it, and fewer than 64 are to come
+-- it is not here, nothing is kept for it, home knows of it, and fewer are to come than there may be processes
 abbrev pub may_come : Node → ℕ → Bool
 may_come n pid = is_none (lookup pid n.hosted) && (not (is_some (fin_map.get n.reserve pid)) && (not (is_stray n (Some pid)) && nat_lt (fin_map.len n.reserve) PROCESSES))
-
--- the pages of a node that are free
-abbrev pub free_at : Node → ℕ
-free_at n = n.shape.cap - min (pages_here n.hosted) (2 ^ 32 - 1) - reserved_pages n.reserve
 
 abbrev pub allowed : ℕ → ℕ → ℕ → Acted
 allowed pid from need = record { what = what.Allow pid from need; mail = (from, message.Allow pid) ∷ [] }
@@ -50,7 +47,7 @@ AnswersAsk (decided.Deny wanted free) pid from need acted old mid = Says (denied
 -- it may come exactly where so many pages are free
 pub record Decides (pid from need : ℕ) (acted : Acted) (old mid : Node) : Type 0 where
   pub pages : (n : ℕ) → IsPast n old.hosted → pages_here old.hosted ≡ sum_to n (λ q. counts pages_of (lookup q old.hosted))
-  pub does : AnswersAsk (decision need (free_at old)) pid from need acted old mid
+  pub does : AnswersAsk (decision need (free_of old)) pid from need acted old mid
 
 abbrev pub HearsAsk : ℕ → ℕ → ℕ → Acted → Node → Node → Type 0
 HearsAsk from pid need acted old mid = MatchBool (may_come old pid) (Decides pid from need acted old mid) (IsStrange acted old mid)

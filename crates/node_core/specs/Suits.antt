@@ -2,6 +2,7 @@
 use Rattle.std.specs.Prelude.{◌≡◌, ◌+◌, ◌-◌, ◌≤◌, ◌<◌, ◌++◌, ℕ, zero, suc, Some, List, length, take, reverse, slice_get}
 use Rattle.rand_pcg.specs.Lcg.{Lcg}
 use Rattle.rand_pcg.specs.Pcg.{pcg32}
+use Rattle.call_table.specs.declared.limit.TheConstants.{NODES, NODE_PAGES, JOURNAL}
 use Rattle.node_event.specs.declared.script.ScriptLine.{ScriptLine}
 use Rattle.user_spec.specs.User.{UserState}
 use Rattle.remote_ctx.specs.declared.context.Context as code_context
@@ -18,9 +19,9 @@ pub record HasShape (plan : Plan) (shape : Shape) : Type 0 where
   pub nodes : shape.nodes ≡ plan.nodes
   pub cap : shape.cap ≡ plan.cap
   pub quantum : shape.quantum ≡ plan.quantum
-  pub most_nodes : plan.nodes ≤ 8
-  pub most_pages : plan.cap ≤ 65536
-  pub most_events : shape.journal ≤ 1048576
+  pub most_nodes : plan.nodes ≤ NODES
+  pub most_pages : plan.cap ≤ NODE_PAGES
+  pub most_events : shape.journal ≤ JOURNAL
 
 -- home has come so far in the plan's script: the contexts that are left are those of the `run` lines to come, the next one last
 pub record Follows (plan : Plan) (c : Course) : Type 0 where

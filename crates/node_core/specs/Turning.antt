@@ -48,11 +48,19 @@ pub record Heard (answers : Answerer) (letter : Letter) (old new : Node) : Type 
 -- or counted it as odd
 pub record Passed (letter : Letter) (old new : Node) : Type 0 where
   pub odd : is_odd old letter ≡ true
+  pub space : length old.journal.events < old.journal.room
   pub is : new ≡ record old { strange = one_more old.strange }
+
+-- in a full journal the letter is dropped, and nothing changes
+pub record Dropped (old new : Node) : Type 0 where
+  pub full : length old.journal.events ≡ old.journal.room
+  pub same : new ≡ old
 
 abbrev pub TookLetter : Answerer → Turned → Letter → Node → Node → Type 0
 TookLetter answers Did letter old new = Heard answers letter old new ⊎ Passed letter old new
-TookLetter answers _ letter old new = ⊥
+TookLetter answers JournalFull letter old new = Dropped old new
+TookLetter answers Idle letter old new = ⊥
+TookLetter answers Finished letter old new = ⊥
 
 -- ---- no letter
 
@@ -67,14 +75,14 @@ IsRest Finished n = IsDone n
 IsRest Idle n = IsDone n → ⊥
 IsRest _ n = ⊥
 
--- what is ready, and the kind that is taken of it
+-- what is ready, and the kind that is taken of it: the first that is ready, from the one after the last taken
 pub record Picks (kind : Option Kind) (n : Node) : Type 0 where
   pub ready : Ready
   pub is : IsReady n ready
   pub picked : picked n.rotation.last ready ≡ kind
   pub most : length n.journal.events ≤ n.journal.room
 
--- a kind of turn was carried out
+-- that kind of turn was carried out, and the rotation goes on from it
 pub record Went (answers : Answerer) (old new : Node) : Type 0 where
   pub kind : Kind
   pub picks : Picks (Some kind) old
@@ -94,6 +102,13 @@ pub record Lacks (n : Node) : Type 0 where
 
 abbrev pub WentOn : Answerer → Turned → Node → Node → Type 0
 WentOn answers Did old new = Went answers old new
-WentOn answers Idle old new = (Picks None old × (IsDone old → ⊥) × (new ≡ old)) ⊎ Lacks old
+WentOn answers Idle old new = ((Picks None old × (IsDone old → ⊥)) ⊎ Lacks old) × (new ≡ old)
 WentOn answers Finished old new = Picks None old × IsDone old × (new ≡ old)
 WentOn answers JournalFull old new = ((kind : Kind) × Picks (Some kind) old) × (length old.journal.events ≡ old.journal.room) × (new ≡ old)
+
+-- ---- a turn
+
+-- with a letter it takes that one, whatever else is due; without one it carries out the kind whose time it is
+abbrev pub TakesInOrder : Answerer → Turned → Option Letter → Node → Node → Type 0
+TakesInOrder answers turned (Some letter) old new = TookLetter answers turned letter old new
+TakesInOrder answers turned None old new = WentOn answers turned old new

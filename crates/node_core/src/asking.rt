@@ -40,7 +40,7 @@ fn denied(alloc: Global, pid: u32, from: u8, need: u32, free: u32) -> Result<Act
 }
 
 impl Node {
-    /// Whether a process may ask for room here: it is not here, nothing is kept for it, home knows of it, and fewer than 64 are to come.
+    /// Whether a process may ask for room here: it is not here, nothing is kept for it, home knows of it, and fewer are to come than there may be processes.
     fn may_come(&self, pid: u32) -> bool
         ensures { result ≡ may_come self.now pid }
     {

@@ -5,7 +5,7 @@ ghost use Rattle.kernel_spec.specs.Kernel.{given};
 ghost use Rattle.remote_ctx.specs.Acting.{PokedOn, Gets, child_in};
 ghost use Rattle.deputy.specs.Calls.{called_in, paused_in};
 ghost use Rattle.call_forward.specs.declared.message.Message.TheVariants as message;
-ghost use Rattle.node_core.specs.Kinds.{is_misplaced, is_stray, is_stray_pid, IsStrange, HearsHere, HearsReply, OnHome, OnHosted};
+ghost use Rattle.node_core.specs.Kinds.{is_misplaced, is_of_calls, is_of_moves, is_stray, is_stray_pid, IsStrange, HearsCall, HearsHere, HearsOfMove, HearsReply, OnHome, OnHosted};
 
 use crate::node::Node;
 use call_forward::{Acted, Done, Mail, Message};
@@ -23,6 +23,16 @@ pub fn strange(alloc: Global) -> Acted
         what: What::Strange,
         mail: Mail::new(alloc),
     }
+}
+
+/// Whether a message is about a call or a signal.
+fn is_of_calls(message: &Message) -> bool
+    ensures { result ≡ is_of_calls message.now }
+{
+    matches!(
+        message,
+        Message::Call { .. } | Message::Pause { .. } | Message::Reply { .. } | Message::Poke { .. }
+    )
 }
 
 impl Node {
@@ -110,6 +120,58 @@ impl Node {
         Ok(acted)
     }
 
+    /// What the node makes of a message about a call or a signal.
+    fn hear_call(&mut self, alloc: Global, from: u8, message: Message) -> Result<Acted, NoMemory>
+        requires { is_of_calls message ≡ true }
+        ensures { IfOk result (λ acted. HearsCall from message acted self.old self.new) }
+    {
+        match message {
+            Message::Call { pid, request } => self.called(alloc, from, pid, request),
+            Message::Pause { pid, room } => self.paused(alloc, from, pid, room),
+            Message::Reply { pid, done } => self.got(alloc, pid, done),
+            Message::Poke { pid } => Ok(self.poked(alloc, pid)),
+            _ => unreachable!(),
+        }
+    }
+
+    /// What the node makes of a message about a move.
+    fn hear_move(&mut self, alloc: Global, from: u8, message: Message) -> Result<Acted, NoMemory>
+        requires { is_of_moves message ≡ true }
+        ensures { IfOk result (λ acted. HearsOfMove from message acted self.old self.new) }
+    {
+        match message {
+            Message::Go {
+                pid,
+                to,
+                hops,
+                line,
+            } => self.order(alloc, pid, to, hops, line),
+            Message::NotHere {
+                pid,
+                to,
+                hops,
+                line,
+            } => self.not_here(alloc, pid, to, hops, line),
+            Message::NoMove { line } => Ok(self.close(alloc, line)),
+            Message::Ask { pid, need } => self.asked(alloc, from, pid, need),
+            Message::Allow { pid } => self.allowed(alloc, from, pid),
+            Message::Deny { pid, need, free } => self.denied(alloc, from, pid, need, free),
+            Message::Move {
+                pid,
+                user,
+                hops,
+                line,
+            } => self.came(alloc, from, pid, user, hops, line),
+            Message::Landed {
+                pid,
+                source,
+                hops,
+                line,
+            } => self.landed(alloc, from, pid, source, hops, line),
+            _ => unreachable!(),
+        }
+    }
+
     /// What the node makes of a message that is in its place, with an event of this stamp.
     pub fn hear<C: Chooser>(
         &mut self,
@@ -121,77 +183,17 @@ impl Node {
     ) -> Result<Acted, NoMemory>
         ensures { IfOk result (λ acted. HearsHere (C.answers policy.now) stamp from message acted self.old self.new) }
     {
+        if is_of_calls(&message) {
+            let acted = self.hear_call(alloc, from, message)?;
+            return Ok(acted);
+        }
         match message {
-            Message::Call { pid, request } => {
-                let acted = self.called(alloc, from, pid, request)?;
-                Ok(acted)
-            }
-            Message::Pause { pid, room } => {
-                let acted = self.paused(alloc, from, pid, room)?;
-                Ok(acted)
-            }
-            Message::Reply { pid, done } => {
-                let acted = self.got(alloc, pid, done)?;
-                Ok(acted)
-            }
-            Message::Poke { pid } => {
-                let acted = self.poked(alloc, pid);
-                Ok(acted)
-            }
-            Message::Go {
-                pid,
-                to,
-                hops,
-                line,
-            } => {
-                let acted = self.order(alloc, pid, to, hops, line)?;
-                Ok(acted)
-            }
-            Message::NotHere {
-                pid,
-                to,
-                hops,
-                line,
-            } => {
-                let acted = self.not_here(alloc, pid, to, hops, line)?;
-                Ok(acted)
-            }
-            Message::NoMove { line } => {
-                let acted = self.close(alloc, line);
-                Ok(acted)
-            }
-            Message::Ask { pid, need } => {
-                let acted = self.asked(alloc, from, pid, need)?;
-                Ok(acted)
-            }
-            Message::Allow { pid } => {
-                let acted = self.allowed(alloc, from, pid)?;
-                Ok(acted)
-            }
-            Message::Deny { pid, need, free } => {
-                let acted = self.denied(alloc, from, pid, need, free)?;
-                Ok(acted)
-            }
-            Message::Move {
-                pid,
-                user,
-                hops,
-                line,
-            } => {
-                let acted = self.came(alloc, from, pid, user, hops, line)?;
-                Ok(acted)
-            }
-            Message::Landed {
-                pid,
-                source,
-                hops,
-                line,
-            } => {
-                let acted = self.landed(alloc, from, pid, source, hops, line)?;
-                Ok(acted)
-            }
             Message::Half { places } => {
                 let acted = self.half_came(alloc, from, stamp, &places, policy)?;
+                Ok(acted)
+            }
+            message => {
+                let acted = self.hear_move(alloc, from, message)?;
                 Ok(acted)
             }
         }

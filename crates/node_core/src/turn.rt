@@ -5,7 +5,7 @@ ghost use Rattle.kernel_spec.specs.Kernel.{is_live};
 ghost use Rattle.node_machine.specs.Policy.{given_by};
 ghost use Rattle.node_core.specs.Turns.{is_strange, one_more, recorded_in, settled_in, skipped_in, TurnsAs};
 ghost use Rattle.node_core.specs.Kinds.{is_misplaced};
-ghost use Rattle.node_core.specs.Turning.{has_many_hops, is_odd, HearsAny, IsDone, IsRest, TookLetter, WentOn};
+ghost use Rattle.node_core.specs.Turning.{has_many_hops, is_odd, HearsAny, IsDone, IsRest, TakesInOrder, TookLetter, WentOn};
 
 use crate::letters::strange;
 use crate::node::Node;
@@ -213,17 +213,19 @@ impl Node {
         Ok(Turned::Did)
     }
 
-    /// One turn. With a letter the node takes it; without one it does what is due of the first kind in the rotation. Idle comes only where no letter came
-    /// and no kind has something to do, Finished where besides it is home, its script is at its end and every process has ended. JournalFull comes only
-    /// where more is due and the journal is full: then nothing changes, and the letter is dropped. After want of memory nothing is said of the node.
-    #[tactic(auto, using(crate::proofs::Answering::took_answers, crate::proofs::Answering::went_answers, crate::proofs::Answering::full_answers))]
+    /// One turn. With a letter the node takes it; without one it carries out the first kind that is ready, from the one after the last taken, and the
+    /// rotation goes on from that. Idle comes only where no letter came and no kind has something to do, Finished where besides it is home, its script is
+    /// at its end and every process has ended. JournalFull comes only where more is due and the journal is full: then nothing changes, and the letter is
+    /// dropped. After want of memory nothing is said of the node.
+    #[tactic(auto, using(crate::proofs::Answering::took_answers, crate::proofs::Answering::went_answers))]
     pub fn turn<C: Chooser>(
         &mut self,
         alloc: Global,
         inbox: Option<Letter>,
         policy: &Policy<C>,
     ) -> Result<Turned, NoMemory>
-        ensures { IfOk result (λ turned. TurnsAs (given_by (C.answers policy.now)) turned inbox self.old self.new) }
+        ensures laws { IfOk result (λ turned. TurnsAs (given_by (C.answers policy.now)) turned inbox self.old self.new) }
+        ensures order { IfOk result (λ turned. TakesInOrder (C.answers policy.now) turned inbox self.old self.new) }
     {
         match inbox {
             Some(letter) => {
