@@ -1,24 +1,13 @@
 -- A seat before anything happened.
-use Rattle.std.proofs.Common.{◌≡◌, ℕ, zero, suc, ◌≤◌, ◌==◌, ◌++◌, Option, Some, None, List, [], ◌∷◌, refl, sym, ap, ◌∙◌, subst, arith, cond, length, map, reverse}
+use Rattle.std.proofs.Common.{◌≡◌, ℕ, ◌≤◌, ◌==◌, ◌++◌, Option, None, List, [], sym, ap, ◌∙◌, subst, arith, length, map, reverse}
 use Rattle.std.specs.Prelude.{option_to_list}
-use Rattle.std.specs.Ordering.{nat_cmp}
-use Rattle.std.specs.FinMap as fin_map
-use mathlib.Core.Path.{fun_ext}
 use Rattle.call_forward.specs.declared.letter.Letter.{Letter}
-use Rattle.node_event.specs.declared.script.ScriptLine.{ScriptLine}
-use Rattle.user_spec.specs.User.{UserState}
-use Rattle.kernel_spec.specs.Pids.{at_pid}
-use Rattle.deputy.specs.declared.row.Row.{Row}
-use Rattle.deputy.specs.Rows.{served_of}
 use Rattle.protocol.specs.Deeds.{all_noted}
-use Rattle.protocol.specs.Notes.{Post, Slot, Progress, no_progress}
 use Rattle.protocol.specs.Cluster.{Fresh}
 use Rattle.node_machine.specs.Plan.{Plan}
 use Rattle.node_machine.specs.Machine.{Policy, machine}
-use Rattle.node_core.specs.declared.shape.Shape.{Shape}
 use Rattle.node_core.specs.declared.node.Node.{Node}
-use Rattle.node_core.specs.Making.{new_node, new_course}
-use Rattle.node_core.specs.Locals.{local, post_of, slot_with, believed_of, progress_of}
+use Rattle.node_core.specs.Locals.{local, post_of}
 use Rattle.node_core.proofs.Alone.{fresh_node}
 use Rattle.node_core.proofs.Starting.{new_suits_of}
 use Rattle.cluster_run.specs.declared.seat.Seat.{Seat}

@@ -6,13 +6,13 @@ use Rattle.std.proofs.lemmas.List.{append-nil, map-append, reverse-append}
 use Rattle.call_forward.specs.declared.letter.Letter.{Letter}
 use Rattle.protocol.specs.Ops.{Ops}
 use Rattle.protocol.specs.Deeds.{Deed, Strange, Noted, all_noted}
-use Rattle.protocol.specs.Notes.{Post, Turn, Local, letter}
+use Rattle.protocol.specs.Notes.{Post, letter}
 use Rattle.protocol.specs.Cluster.{for_link, at_front}
 use Rattle.protocol.specs.Does.{Makes}
 use Rattle.protocol.specs.Odd.{SkipsOdd, Timely}
 use Rattle.protocol.specs.Rests.{Rests, Finished, HasMore}
 use Rattle.protocol.proofs.Talk.{same_numbers}
-use Rattle.run_laws.specs.Carried.{Each, IsUsual, Marked, recorded}
+use Rattle.run_laws.specs.Carried.{Each, IsUsual, recorded}
 use Rattle.run_laws.specs.Skipping as skipping
 use Rattle.run_laws.specs.Skipping.{Lone, all_posted, all_taken, journal}
 use Rattle.run_laws.proofs.Weave.{marked}
@@ -22,7 +22,7 @@ use Rattle.node_core.specs.declared.node.Node.{Node}
 use Rattle.node_core.specs.declared.shape.Shape.{Shape}
 use Rattle.node_core.specs.declared.turn.Turned.{Turned}
 use Rattle.node_core.specs.declared.turn.Turned.TheVariants as turned
-use Rattle.node_core.specs.Turns.{TurnsAs, Answers, strange_after, PassedOver, Rested, HasFinished, IsFull}
+use Rattle.node_core.specs.Turns.{TurnsAs, strange_after, PassedOver, Rested, HasFinished, IsFull}
 use Rattle.node_core.specs.Turns as turns
 use Rattle.node_core.specs.Locals.{local, post_of, post_at, note_of}
 use Rattle.node_core.specs.Suits.{Suits}
@@ -31,8 +31,8 @@ use Rattle.node_core.proofs.Starting.{suits_out}
 use Rattle.cluster_run.specs.declared.seat.Seat.{Seat}
 use Rattle.cluster_run.specs.declared.seat.Rest.{Rest}
 use Rattle.cluster_run.specs.declared.seat.Rest.TheVariants as rested
-use Rattle.cluster_run.specs.Sides.{towards, SameSide}
-use Rattle.cluster_run.specs.Seats.{rest_of, bound, waiting, Step, Made, AreUsual, CameBy, Lives, Found, LivesAt, Ready, Filled, Turns}
+use Rattle.cluster_run.specs.Sides.{towards}
+use Rattle.cluster_run.specs.Seats.{rest_of, bound, Step, Made, CameBy, Lives, Found, LivesAt, Ready, Filled}
 
 pub nothing_if : {A : Type 0} (b : Bool) → cond {A = List A} b [] [] ≡ []
 nothing_if true = refl
