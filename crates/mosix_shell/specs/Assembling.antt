@@ -41,7 +41,7 @@ pub record IsFileOf (text file : List ℕ) : Type 0 where
   pub assembled_is : assembled text ≡ Ok file
   pub loads : LoadsAs text file
 
--- all of the file at Done, a front of it at a write fault, in pieces of at most 65,536 bytes; else the answer's line
+-- all of the file at Done, a front of it at a write fault, in pieces of at most PIECE_BYTES bytes; else the answer's line
 abbrev pub WritesFile : {O : Type 0} → List ℕ → Seen O (List ℕ) → Why → Type 0
 WritesFile text sink Done = (file : List ℕ) × IsFileOf text file × WritesAll sink (chunks_of file)
 WritesFile text sink WriteFault = (file : List ℕ) × IsFileOf text file × WritesFront sink (chunks_of file)

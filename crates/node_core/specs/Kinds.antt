@@ -93,6 +93,7 @@ abbrev pub is_of_moves : Message → Bool
 is_of_moves (message.Half places) = false
 is_of_moves m = not (is_of_calls m)
 
+-- what a node makes of a message about a call or a signal
 abbrev pub HearsCall : ℕ → Message → Acted → Node → Node → Type 0
 HearsCall from (message.Call pid request) acted old mid = (length old.deputies.rows ≡ given old.deputies.kernel) × OnHome (called_in old.deputies from pid request) acted old mid
 HearsCall from (message.Pause pid room) acted old mid = OnHome (paused_in old.deputies from pid room) acted old mid
@@ -100,6 +101,7 @@ HearsCall from (message.Reply pid done) acted old mid = HearsReply pid done acte
 HearsCall from (message.Poke pid) acted old mid = OnHosted (PokedOn acted pid) old mid
 HearsCall from _ acted old mid = ⊥
 
+-- of one about a move
 abbrev pub HearsOfMove : ℕ → Message → Acted → Node → Node → Type 0
 HearsOfMove from (message.Go pid to hops line) acted old mid = GoActs (answer_at old pid to) pid to hops line acted old mid
 HearsOfMove from (message.NotHere pid to hops line) acted old mid = OnHome (missed_in old.deputies pid to hops line) acted old mid
