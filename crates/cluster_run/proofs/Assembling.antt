@@ -26,7 +26,7 @@ use Rattle.cluster_run.specs.Passing.{AreWithin}
 use Rattle.cluster_run.proofs.Calming.{below, some_is}
 use Rattle.cluster_run.proofs.Meetings.{fronts_none}
 use Rattle.cluster_run.proofs.Living.{nothing_if, each_left, each_right}
-use Rattle.cluster_run.proofs.Firsts.{fresh_node}
+use Rattle.node_core.proofs.Alone.{fresh_node}
 
 pub none_past : {A : Type 0} (xs : List A) (k : ℕ) → slice_get xs k ≡ None → length xs ≤ k
 none_past [] k e = omega arith

@@ -23,7 +23,7 @@ module _ (policy : Policy) (plan : Plan) where
   ready_first puts gives room k s f waits rest none_put none_given = record {
     lives = record {
       acts = [];
-      lone = subst (λ (n : Node). Fresh (machine policy plan) k (local policy plan n)) (sym f.made) (fresh_node k f.shape f.script f.users);
+      lone = subst (λ (n : Node). Fresh (machine policy plan) k (local policy plan n)) (sym f.made) (fresh_node policy plan k f.shape f.script f.users);
       id = ap (λ (n : Node). n.id) f.made;
       suits = new_suits_of plan k f.shape f.script f.users s.node f.made f.beginning;
       room_is = ap (λ (n : Node). n.journal.room) f.made ∙ f.room_is;
