@@ -9,7 +9,7 @@ ghost use Rattle.user_ctx.specs.Blocks.{pc_after, IsGone, Keeps};
 
 use crate::op::{Op, Work, work_done};
 use crate::place::Destination;
-use crate::step::{load, store};
+use crate::step::{load_inside, store_inside};
 use crate::window::Window;
 use crate::windows::Windows;
 use page_set::Pages;
@@ -96,25 +96,25 @@ fn step_ready<const IS_SHORT: bool>(
             *place += 1;
             Gone::Next
         }
-        Work::Loads { rd, addr, form } => match load(pages, addr, form) {
-            Ok(value) => {
+        Work::Loads { rd, addr, form } => match load_inside(pages, addr, form) {
+            Some(value) => {
                 set_destination(x, rd, value);
                 *place += 1;
                 Gone::Next
             }
-            Err(_) => Gone::Left,
+            None => Gone::Left,
         },
-        Work::Stores { addr, value, width } => match store(pages, addr, value, width) {
-            Ok(()) => {
-                *place += 1;
-                if is_clear(addr, low, end) {
-                    Gone::Next
-                } else {
-                    Gone::Wrote(addr)
-                }
+        Work::Stores { addr, value, width } => {
+            if !store_inside(pages, addr, value, width) {
+                return Gone::Left;
             }
-            Err(_) => Gone::Left,
-        },
+            *place += 1;
+            if is_clear(addr, low, end) {
+                Gone::Next
+            } else {
+                Gone::Wrote(addr)
+            }
+        }
         Work::Falls => {
             *place += 1;
             Gone::Next
@@ -208,27 +208,27 @@ fn run_long(
         Some(place) => place,
         None => return (0, Gone::Left),
     };
-    let mut end = at + n as usize;
+    let mut last = at + n as usize - 1;
     loop {
         let here = at;
         match step_ready::<false>(window, low, high, &mut at, x, pages) {
             Gone::Next => at = same_place(at),
             Gone::Jumped => {
-                let left = end - here - 1;
+                let left = last - here;
                 if left < MOST_IN_BLOCK as usize {
                     *pc = window.base + 4 * at as u32;
                     return (n - left as u32, Gone::Jumped);
                 }
-                end = at + left;
+                last = at + left - 1;
             }
             Gone::Away(to) => {
-                let left = end - here - 1;
+                let left = last - here;
                 let other = window_at(&windows.slots, windows.hint(to));
                 match place_in(to, other.base) {
                     Some(place) if left >= MOST_IN_BLOCK as usize => {
                         window = other;
                         at = place;
-                        end = place + left;
+                        last = place + left - 1;
                     }
                     _ => {
                         *pc = to;
@@ -238,11 +238,11 @@ fn run_long(
             }
             Gone::Wrote(addr) => {
                 *pc = window.base + 4 * at as u32;
-                return (n - (end - here - 1) as u32, Gone::Wrote(addr));
+                return (n - (last - here) as u32, Gone::Wrote(addr));
             }
             Gone::Left => {
                 *pc = window.base + 4 * at as u32;
-                return (n - (end - here) as u32, Gone::Left);
+                return (n - (last + 1 - here) as u32, Gone::Left);
             }
         }
     }
