@@ -1,22 +1,21 @@
 -- What a process can get: whether it is at a forwarded call, and the room for a frame after the return.
-use Rattle.std.proofs.Common.{◌≡◌, ◌≢◌, ℕ, zero, suc, ◌+◌, ◌/◌, ◌%◌, ◌<◌, ◌≤◌, ◌==◌, ◌&&◌, ◌||◌, not, List, [], ◌∷◌, refl, ap, ◌∙◌, sym, subst, arith, Option, Some, None, Result, Ok, Err, Bool, true, false, cond, is_ok, nat_le, slice_index, slice_set}
+use Rattle.std.proofs.Common.{◌≡◌, ℕ, zero, suc, ◌+◌, ◌/◌, ◌%◌, ◌<◌, ◌≤◌, ◌==◌, ◌&&◌, ◌||◌, not, List, [], ◌∷◌, refl, ap, ◌∙◌, sym, subst, arith, Option, Some, None, Result, Ok, Err, Bool, true, false, cond, is_ok, slice_index, slice_set}
 use Rattle.std.proofs.lemmas.Bool.Decides.{nat_tests}
 use Rattle.std.specs.FinMap as map
-use Rattle.call_table.specs.Calls.{is_call, is_site_local}
+use Rattle.call_table.specs.Calls.{is_site_local}
 use Rattle.call_table.specs.declared.limit.TheConstants.{STEPS}
 use Rattle.call_table.specs.declared.call.TheConstants.{FORK, SIGRETURN}
 use Rattle.call_table.specs.declared.table.TheConstants.{RIGHT_WRITE, FRAME_SIZE}
-use Rattle.call_table.specs.declared.request.Request.{Request}
 use Rattle.call_table.specs.declared.request.Answer.{Answer}
 use Rattle.call_table.specs.declared.request.Kind.{Kind}
 use Rattle.call_table.specs.declared.request.Kind.TheVariants.{Plain, Fork, Return}
-use Rattle.page_set.specs.Pages.{Page, PageMap, byte_of, byte_at, flat_at, with_front, with_bytes}
+use Rattle.page_set.specs.Pages.{Page, PageMap, byte_of, byte_at, flat_at, with_front}
 use Rattle.user_spec.specs.User.{UserState}
 use Rattle.user_spec.specs.Request.{number_of, stack_pointer, frame_at, has_frame_room, frame_word, frame_registers, returned_pointer, is_local_call, has_buffer, local_call, returned, returned_as}
 use Rattle.user_spec.specs.Instruction.{Core, next_effect, applied, with_loaded, with_stored, load_as, store_as}
 use Rattle.user_spec.specs.declared.effect.Effect.{Effect}
 use Rattle.user_spec.specs.declared.effect.Effect.TheVariants.{Sets, Loads, Stores, Calls, Raises}
-use Rattle.user_spec.specs.Advance.{Went, Done, AtCall, Faults, advance, core_of, went_of, counted, asked_at, request_of}
+use Rattle.user_spec.specs.Advance.{Done, AtCall, core_of, went_of, counted, asked_at, request_of}
 use Rattle.user_spec.specs.Fits.{forwards, fits_answer, fits_kind, has_room_at}
 use Rattle.user_ctx.specs.Calling.{is_calling}
 use Rattle.user_ctx.specs.Heap.{rights_at}

@@ -1,5 +1,5 @@
 -- Instructions after others.
-use Rattle.std.proofs.Common.{◌≡◌, ◌≢◌, ◌∷◌, ℕ, zero, suc, ◌+◌, ◌-◌, ◌≤◌, refl, ap, ◌∙◌, sym, arith, Some, Result, Ok, Err}
+use Rattle.std.proofs.Common.{◌≡◌, ◌≢◌, ◌∷◌, ℕ, zero, suc, ◌+◌, refl, ap, ◌∙◌, sym, arith, Some, Result, Ok, Err}
 use Rattle.std.proofs.lemmas.Option.{none-some, same_Some}
 use Rattle.user_spec.specs.Instruction.{Core, Ran, done, applied, with_loaded, with_stored, load_as, store_as, next_effect, one_instruction, on_outcome, on_ran, ran}
 use Rattle.user_spec.specs.declared.effect.Effect.{Effect}

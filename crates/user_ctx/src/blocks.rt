@@ -1,5 +1,5 @@
 // Ready instructions of one page, block by block.
-ghost use Rattle.std.specs.Prelude.{ℕ, ◌≡◌, ◌≢◌, ◌≤◌, ◌<◌, ◌+◌, ◌*◌, ◌/◌, ◌%◌, ◌∷◌, drop, Some, IfSome, IfNone, true, false};
+ghost use Rattle.std.specs.Prelude.{ℕ, ◌≡◌, ◌≢◌, ◌≤◌, ◌<◌, ◌+◌, ◌*◌, ◌/◌, ◌%◌, ◌^◌, ◌∷◌, drop, Some, IfSome, IfNone, true, false};
 ghost use Rattle.std.specs.List.{slice_get};
 ghost use Rattle.user_spec.specs.Instruction.{ran};
 ghost use Rattle.user_spec.specs.User.{with_register};
@@ -9,7 +9,7 @@ ghost use Rattle.user_ctx.specs.Blocks.{pc_after, IsGone, Keeps};
 
 use crate::op::{Op, Work, work_done};
 use crate::place::Destination;
-use crate::step::{load, store};
+use crate::step::{load_inside, store_inside};
 use crate::window::Window;
 use crate::windows::Windows;
 use page_set::Pages;
@@ -42,15 +42,24 @@ fn set_destination(registers: &mut [u32; 32], rd: Destination, value: u32)
     registers[rd.index()] = value;
 }
 
+/// The third address below one, modulo 2^32. It is called, so that it is reckoned once and not at each store.
+#[inline(never)]
+fn third_below(low: u32) -> u32
+    ensures { (result + 3) % 2 ^ 32 ≡ low }
+{
+    low.wrapping_sub(3)
+}
+
 /// Whether four bytes from an address on touch no word from `low` up to `end`. It may say no where they touch none.
 #[inline(always)]
 #[tactic(auto, using(crate::proofs::Made::is_clear))]
-fn is_clear(addr: u32, low: u32, end: u32) -> bool
+fn is_clear(addr: u32, below: u32, low: u32, end: u32) -> bool
+    requires below { (below + 3) % 2 ^ 32 ≡ low }
     requires order { low ≤ end }
     requires end { end < 0xFFFFF001 }
     ensures { result ≡ true → IsClear addr low end }
 {
-    addr.wrapping_add(3).wrapping_sub(low) >= end - low + 6
+    addr.wrapping_sub(below) >= end - low + 6
 }
 
 /// The place of an address in the page from another one on.
@@ -72,6 +81,7 @@ fn place_in(target: u32, base: u32) -> Option<usize>
 #[tactic(auto, using(crate::proofs::Stored::same_words))]
 fn step_ready<const IS_SHORT: bool>(
     window: &Window,
+    below: u32,
     low: u32,
     end: u32,
     place: &mut usize,
@@ -81,6 +91,7 @@ fn step_ready<const IS_SHORT: bool>(
     requires zero { x.old ≡ 0 ∷ drop 1 x.old }
     requires place { place.old ≤ 1024 }
     requires window { IsWindow pages.old window.now.base window.now.ops }
+    requires below { (below + 3) % 2 ^ 32 ≡ low }
     requires order { low ≤ end }
     requires end { end < 0xFFFFF001 }
     ensures zero { x.new ≡ 0 ∷ drop 1 x.new }
@@ -96,25 +107,25 @@ fn step_ready<const IS_SHORT: bool>(
             *place += 1;
             Gone::Next
         }
-        Work::Loads { rd, addr, form } => match load(pages, addr, form) {
-            Ok(value) => {
+        Work::Loads { rd, addr, form } => match load_inside(pages, addr, form) {
+            Some(value) => {
                 set_destination(x, rd, value);
                 *place += 1;
                 Gone::Next
             }
-            Err(_) => Gone::Left,
+            None => Gone::Left,
         },
-        Work::Stores { addr, value, width } => match store(pages, addr, value, width) {
-            Ok(()) => {
-                *place += 1;
-                if is_clear(addr, low, end) {
-                    Gone::Next
-                } else {
-                    Gone::Wrote(addr)
-                }
+        Work::Stores { addr, value, width } => {
+            if !store_inside(pages, addr, value, width) {
+                return Gone::Left;
             }
-            Err(_) => Gone::Left,
-        },
+            *place += 1;
+            if is_clear(addr, below, low, end) {
+                Gone::Next
+            } else {
+                Gone::Wrote(addr)
+            }
+        }
         Work::Falls => {
             *place += 1;
             Gone::Next
@@ -201,6 +212,7 @@ fn run_long(
     ensures keeps { Keeps result.1 windows.now.low windows.now.end pages.old pages.new }
 {
     let low = windows.low;
+    let below = third_below(low);
     let high = windows.end;
     let mut window = window_at(&windows.slots, slot);
     let first = *pc;
@@ -208,27 +220,27 @@ fn run_long(
         Some(place) => place,
         None => return (0, Gone::Left),
     };
-    let mut end = at + n as usize;
+    let mut last = at + n as usize - 1;
     loop {
         let here = at;
-        match step_ready::<false>(window, low, high, &mut at, x, pages) {
+        match step_ready::<false>(window, below, low, high, &mut at, x, pages) {
             Gone::Next => at = same_place(at),
             Gone::Jumped => {
-                let left = end - here - 1;
+                let left = last - here;
                 if left < MOST_IN_BLOCK as usize {
                     *pc = window.base + 4 * at as u32;
                     return (n - left as u32, Gone::Jumped);
                 }
-                end = at + left;
+                last = at + left - 1;
             }
             Gone::Away(to) => {
-                let left = end - here - 1;
+                let left = last - here;
                 let other = window_at(&windows.slots, windows.hint(to));
                 match place_in(to, other.base) {
                     Some(place) if left >= MOST_IN_BLOCK as usize => {
                         window = other;
                         at = place;
-                        end = place + left;
+                        last = place + left - 1;
                     }
                     _ => {
                         *pc = to;
@@ -238,11 +250,11 @@ fn run_long(
             }
             Gone::Wrote(addr) => {
                 *pc = window.base + 4 * at as u32;
-                return (n - (end - here - 1) as u32, Gone::Wrote(addr));
+                return (n - (last - here) as u32, Gone::Wrote(addr));
             }
             Gone::Left => {
                 *pc = window.base + 4 * at as u32;
-                return (n - (end - here) as u32, Gone::Left);
+                return (n - (last + 1 - here) as u32, Gone::Left);
             }
         }
     }
@@ -275,8 +287,9 @@ fn run_short(
         Some(place) => place,
         None => return (0, Gone::Left),
     };
+    let below = third_below(windows.low);
     for i in 0..n {
-        match step_ready::<true>(window, windows.low, windows.end, &mut at, x, pages) {
+        match step_ready::<true>(window, below, windows.low, windows.end, &mut at, x, pages) {
             Gone::Next => at = same_place(at),
             Gone::Jumped => {}
             Gone::Away(to) => {

@@ -1,6 +1,7 @@
 // One instruction, on pc, registers and pages.
-ghost use Rattle.std.specs.Prelude.{◌≡◌, ◌∷◌, drop, MatchResult, Ok, Err, OnErr};
+ghost use Rattle.std.specs.Prelude.{◌≡◌, ◌∷◌, drop, MatchResult, Ok, Err, OnErr, IfSome, true, false};
 ghost use Rattle.user_spec.specs.Words.{sign_filled};
+ghost use Rattle.page_set.specs.Pages.{loaded};
 ghost use Rattle.user_spec.specs.Instruction.{next_effect, load_as, store_as, one_instruction};
 ghost use Rattle.user_ctx.specs.Stopping.{core};
 ghost use Rattle.user_ctx.specs.Windows.{Stored};
@@ -51,6 +52,73 @@ pub fn store(pages: &mut Pages, addr: u32, value: u32, width: Width) -> Result<(
         Width::One => pages.store_1(addr, value),
         Width::Two => pages.store_2(addr, value),
         Width::Four => pages.store_4(addr, value),
+    }
+}
+
+/// The byte at an address, where it can be read.
+#[inline(always)]
+fn byte_inside(pages: &Pages, addr: u32) -> Option<u8>
+    ensures { IfSome result (λ w. loaded pages.now addr 1 4 ≡ Ok w) }
+{
+    match pages.load_1(addr, RIGHT_READ) {
+        Ok(byte) => Some(byte),
+        Err(_) => None,
+    }
+}
+
+/// The two bytes from an address on, where they lie in one page and can be read.
+#[inline(always)]
+fn half_inside(pages: &Pages, addr: u32) -> Option<u16>
+    ensures { IfSome result (λ w. loaded pages.now addr 2 4 ≡ Ok w) }
+{
+    if addr % 4096 > 4096 - 2 {
+        return None;
+    }
+    match pages.load_2(addr, RIGHT_READ) {
+        Ok(half) => Some(half),
+        Err(_) => None,
+    }
+}
+
+/// The four bytes from an address on, where they lie in one page and can be read.
+#[inline(always)]
+fn word_inside(pages: &Pages, addr: u32) -> Option<u32>
+    ensures { IfSome result (λ w. loaded pages.now addr 4 4 ≡ Ok w) }
+{
+    if addr % 4096 > 4096 - 4 {
+        return None;
+    }
+    match pages.load_4(addr, RIGHT_READ) {
+        Ok(word) => Some(word),
+        Err(_) => None,
+    }
+}
+
+/// A load whose bytes lie in one page, where they can be read: nothing is called on the way, so LLVM needs no answer in a
+/// register where the ways meet.
+#[inline(always)]
+pub fn load_inside(pages: &Pages, addr: u32, form: Form) -> Option<u32>
+    ensures { IfSome result (λ w. load_as form pages.now addr ≡ Ok w) }
+{
+    match form {
+        Form::SignedByte => Some(sign_byte(byte_inside(pages, addr)?)),
+        Form::SignedHalf => Some(sign_half(half_inside(pages, addr)?)),
+        Form::Word => word_inside(pages, addr),
+        Form::Byte => Some(byte_inside(pages, addr)? as u32),
+        Form::Half => Some(half_inside(pages, addr)? as u32),
+    }
+}
+
+/// A store whose bytes lie in one page, where they can be written. Else it is false, and nothing changes.
+#[inline(always)]
+pub fn store_inside(pages: &mut Pages, addr: u32, value: u32, width: Width) -> bool
+    ensures is { result ≡ true → store_as width pages.old addr value ≡ Ok pages.new }
+    ensures not { result ≡ false → pages.new ≡ pages.old }
+{
+    match width {
+        Width::One => pages.store_1(addr, value).is_ok(),
+        Width::Two => addr % 4096 <= 4096 - 2 && pages.store_2(addr, value).is_ok(),
+        Width::Four => addr % 4096 <= 4096 - 4 && pages.store_4(addr, value).is_ok(),
     }
 }
 

@@ -52,7 +52,7 @@ fn run_ready(pc: &mut u32, x: &mut [u32; 32], pages: &mut Pages, n: u32) -> (u32
     let mut at = *pc;
     let mut windows = Windows::new(at, pages);
     let mut done = 0;
-    for _i in 0..n {
+    loop {
         let (more, goes_on) = windows.run(&mut at, x, pages, n - done);
         done += more;
         if done == n {
@@ -71,8 +71,6 @@ fn run_ready(pc: &mut u32, x: &mut [u32; 32], pages: &mut Pages, n: u32) -> (u32
             }
         }
     }
-    *pc = at;
-    (n, Outcome::Done)
 }
 
 /// The same, plainly at first.

@@ -15,17 +15,17 @@ returns-in-Sets-clause-gone o c = sets _ _ _ _ _ _ _ _ c.set_destination.new.reg
 pub returns-in-Sets-clause-keeps : goal.returns-in-Sets-clause-keeps
 returns-in-Sets-clause-keeps o c = same_words _ _ _ _ refl
 
-pub returns-in-Ok-clause-place : goal.returns-in-Ok-clause-place
-returns-in-Ok-clause-place o c = let lt = inside _ _ _ _ _ _ _ c.requires.window c.requires.place (sym c.work_done.ensures ∙ c.in-Loads.is) refl in omega (arith, lt)
+pub returns-in-Some-clause-place : goal.returns-in-Some-clause-place
+returns-in-Some-clause-place o c = let lt = inside _ _ _ _ _ _ _ c.requires.window c.requires.place (sym c.work_done.ensures ∙ c.in-Loads.is) refl in omega (arith, lt)
 
-pub returns-in-Ok-clause-idle : goal.returns-in-Ok-clause-idle
-returns-in-Ok-clause-idle o c = λ _. not_slow _ _ _ _ _ _ _ c.requires.window c.requires.place (sym c.work_done.ensures ∙ c.in-Loads.is) refl
+pub returns-in-Some-clause-idle : goal.returns-in-Some-clause-idle
+returns-in-Some-clause-idle o c = λ _. not_slow _ _ _ _ _ _ _ c.requires.window c.requires.place (sym c.work_done.ensures ∙ c.in-Loads.is) refl
 
-pub returns-in-Ok-clause-gone : goal.returns-in-Ok-clause-gone
-returns-in-Ok-clause-gone o c = loads _ _ _ _ _ _ _ _ _ _ c.set_destination-in-Ok.new.registers c.requires.window c.requires.place c.requires.zero (sym c.work_done.ensures ∙ c.in-Loads.is) c.in-Ok.ensures c.set_destination-in-Ok.ensures.new
+pub returns-in-Some-clause-gone : goal.returns-in-Some-clause-gone
+returns-in-Some-clause-gone o c = loads _ _ _ _ _ _ _ _ _ _ c.set_destination-in-Some.new.registers c.requires.window c.requires.place c.requires.zero (sym c.work_done.ensures ∙ c.in-Loads.is) c.in-Some.ensures c.set_destination-in-Some.ensures.new
 
-pub returns-in-Ok-clause-keeps : goal.returns-in-Ok-clause-keeps
-returns-in-Ok-clause-keeps o c = same_words _ _ _ _ refl
+pub returns-in-Some-clause-keeps : goal.returns-in-Some-clause-keeps
+returns-in-Some-clause-keeps o c = same_words _ _ _ _ refl
 
 pub returns-then-is_clear-clause-place : goal.returns-then-is_clear-clause-place
 returns-then-is_clear-clause-place o c = let lt = inside _ _ _ _ _ _ _ c.requires.window c.requires.place (sym c.work_done.ensures ∙ c.in-Stores.is) refl in omega (arith, lt)
@@ -34,10 +34,10 @@ pub returns-then-is_clear-clause-idle : goal.returns-then-is_clear-clause-idle
 returns-then-is_clear-clause-idle o c = λ _. not_slow _ _ _ _ _ _ _ c.requires.window c.requires.place (sym c.work_done.ensures ∙ c.in-Stores.is) refl
 
 pub returns-then-is_clear-clause-gone : goal.returns-then-is_clear-clause-gone
-returns-then-is_clear-clause-gone o c = stores _ _ _ _ _ _ _ _ _ _ c.requires.window c.requires.place c.requires.zero (sym c.work_done.ensures ∙ c.in-Stores.is) c.in-Ok-store.ensures.is
+returns-then-is_clear-clause-gone o c = stores _ _ _ _ _ _ _ _ _ _ c.requires.window c.requires.place c.requires.zero (sym c.work_done.ensures ∙ c.in-Stores.is) (c.store_inside.ensures.is c.if-not-store_inside.false)
 
 pub returns-then-is_clear-clause-keeps : goal.returns-then-is_clear-clause-keeps
-returns-then-is_clear-clause-keeps o c = clear_same _ _ _ _ _ _ _ c.in-Ok-store.ensures.is (c.is_clear.ensures c.if-is_clear.true) (omega (arith, c.requires.end))
+returns-then-is_clear-clause-keeps o c = clear_same _ _ _ _ _ _ _ (c.store_inside.ensures.is c.if-not-store_inside.false) (c.is_clear.ensures c.if-is_clear.true) (omega (arith, c.requires.end))
 
 pub returns-else-is_clear-clause-place : goal.returns-else-is_clear-clause-place
 returns-else-is_clear-clause-place o c = let lt = inside _ _ _ _ _ _ _ c.requires.window c.requires.place (sym c.work_done.ensures ∙ c.in-Stores.is) refl in omega (arith, lt)
@@ -46,10 +46,10 @@ pub returns-else-is_clear-clause-idle : goal.returns-else-is_clear-clause-idle
 returns-else-is_clear-clause-idle o c = λ _. not_slow _ _ _ _ _ _ _ c.requires.window c.requires.place (sym c.work_done.ensures ∙ c.in-Stores.is) refl
 
 pub returns-else-is_clear-clause-gone : goal.returns-else-is_clear-clause-gone
-returns-else-is_clear-clause-gone o c = stores _ _ _ _ _ _ _ _ _ _ c.requires.window c.requires.place c.requires.zero (sym c.work_done.ensures ∙ c.in-Stores.is) c.in-Ok-store.ensures.is
+returns-else-is_clear-clause-gone o c = stores _ _ _ _ _ _ _ _ _ _ c.requires.window c.requires.place c.requires.zero (sym c.work_done.ensures ∙ c.in-Stores.is) (c.store_inside.ensures.is c.if-not-store_inside.false)
 
 pub returns-else-is_clear-clause-keeps : goal.returns-else-is_clear-clause-keeps
-returns-else-is_clear-clause-keeps o c = within_but _ _ _ _ _ _ _ c.in-Ok-store.ensures.is (omega arith) (omega (arith, c.requires.end))
+returns-else-is_clear-clause-keeps o c = within_but _ _ _ _ _ _ _ (c.store_inside.ensures.is c.if-not-store_inside.false) (omega arith) (omega (arith, c.requires.end))
 
 pub returns-in-Falls-clause-place : goal.returns-in-Falls-clause-place
 returns-in-Falls-clause-place o c = let lt = inside _ _ _ _ _ _ _ c.requires.window c.requires.place (sym c.work_done.ensures ∙ c.in-Falls.is) refl in omega (arith, lt)
@@ -81,23 +81,23 @@ returns-in-Links-clause-gone o c = links _ _ _ _ _ _ _ _ c.set_destination-in-Li
 pub returns-in-Links-clause-keeps : goal.returns-in-Links-clause-keeps
 returns-in-Links-clause-keeps o c = same_words _ _ _ _ refl
 
-pub returns-in-Some-clause-gone : goal.returns-in-Some-clause-gone
-returns-in-Some-clause-gone o c = leaps _ _ _ _ _ _ _ _ c.requires.window c.requires.place c.requires.zero (sym c.work_done.ensures ∙ c.in-Leaps.is) (omega (arith, c.if-target-ne0.false)) c.in-Some.ensures.1
-
-pub returns-in-None-clause-idle : goal.returns-in-None-clause-idle
-returns-in-None-clause-idle o c = λ _. not_slow _ _ _ _ _ _ _ c.requires.window c.requires.place (sym c.work_done.ensures ∙ c.in-Leaps.is) refl
-
-pub returns-in-None-clause-gone : goal.returns-in-None-clause-gone
-returns-in-None-clause-gone o c = leaps _ _ _ _ _ _ _ _ c.requires.window c.requires.place c.requires.zero (sym c.work_done.ensures ∙ c.in-Leaps.is) (omega (arith, c.if-target-ne0.false)) refl
-
-pub returns-in-Some-place_in-clause-idle : goal.returns-in-Some-place_in-clause-idle
-returns-in-Some-place_in-clause-idle o c = λ _. not_slow _ _ _ _ _ _ _ c.requires.window c.requires.place (sym c.work_done.ensures ∙ c.in-LeapsFrom.is) refl
-
 pub returns-in-Some-place_in-clause-gone : goal.returns-in-Some-place_in-clause-gone
-returns-in-Some-place_in-clause-gone o c = leaps_from _ _ _ _ _ _ _ _ c.set_destination-in-LeapsFrom.new.registers _ c.requires.window c.requires.place c.requires.zero (sym c.work_done.ensures ∙ c.in-LeapsFrom.is) (omega (arith, c.if-target-ne0-2.false)) c.set_destination-in-LeapsFrom.ensures.new c.in-Some-place_in.ensures.1
+returns-in-Some-place_in-clause-gone o c = leaps _ _ _ _ _ _ _ _ c.requires.window c.requires.place c.requires.zero (sym c.work_done.ensures ∙ c.in-Leaps.is) (omega (arith, c.if-target-ne0.false)) c.in-Some-place_in.ensures.1
 
 pub returns-in-None-place_in-clause-idle : goal.returns-in-None-place_in-clause-idle
-returns-in-None-place_in-clause-idle o c = λ _. not_slow _ _ _ _ _ _ _ c.requires.window c.requires.place (sym c.work_done.ensures ∙ c.in-LeapsFrom.is) refl
+returns-in-None-place_in-clause-idle o c = λ _. not_slow _ _ _ _ _ _ _ c.requires.window c.requires.place (sym c.work_done.ensures ∙ c.in-Leaps.is) refl
 
 pub returns-in-None-place_in-clause-gone : goal.returns-in-None-place_in-clause-gone
-returns-in-None-place_in-clause-gone o c = leaps_from _ _ _ _ _ _ _ _ c.set_destination-in-LeapsFrom.new.registers _ c.requires.window c.requires.place c.requires.zero (sym c.work_done.ensures ∙ c.in-LeapsFrom.is) (omega (arith, c.if-target-ne0-2.false)) c.set_destination-in-LeapsFrom.ensures.new refl
+returns-in-None-place_in-clause-gone o c = leaps _ _ _ _ _ _ _ _ c.requires.window c.requires.place c.requires.zero (sym c.work_done.ensures ∙ c.in-Leaps.is) (omega (arith, c.if-target-ne0.false)) refl
+
+pub returns-in-Some-place_in-2-clause-idle : goal.returns-in-Some-place_in-2-clause-idle
+returns-in-Some-place_in-2-clause-idle o c = λ _. not_slow _ _ _ _ _ _ _ c.requires.window c.requires.place (sym c.work_done.ensures ∙ c.in-LeapsFrom.is) refl
+
+pub returns-in-Some-place_in-2-clause-gone : goal.returns-in-Some-place_in-2-clause-gone
+returns-in-Some-place_in-2-clause-gone o c = leaps_from _ _ _ _ _ _ _ _ c.set_destination-in-LeapsFrom.new.registers _ c.requires.window c.requires.place c.requires.zero (sym c.work_done.ensures ∙ c.in-LeapsFrom.is) (omega (arith, c.if-target-ne0-2.false)) c.set_destination-in-LeapsFrom.ensures.new c.in-Some-place_in-2.ensures.1
+
+pub returns-in-None-place_in-2-clause-idle : goal.returns-in-None-place_in-2-clause-idle
+returns-in-None-place_in-2-clause-idle o c = λ _. not_slow _ _ _ _ _ _ _ c.requires.window c.requires.place (sym c.work_done.ensures ∙ c.in-LeapsFrom.is) refl
+
+pub returns-in-None-place_in-2-clause-gone : goal.returns-in-None-place_in-2-clause-gone
+returns-in-None-place_in-2-clause-gone o c = leaps_from _ _ _ _ _ _ _ _ c.set_destination-in-LeapsFrom.new.registers _ c.requires.window c.requires.place c.requires.zero (sym c.work_done.ensures ∙ c.in-LeapsFrom.is) (omega (arith, c.if-target-ne0-2.false)) c.set_destination-in-LeapsFrom.ensures.new refl

@@ -1,4 +1,4 @@
-use Rattle.std.proofs.Common.{◌≡◌, ◌<◌, ◌∙◌, sym, ap, ◌&&◌, not, Bool, true, false, arith, refl}
+use Rattle.std.proofs.Common.{◌≡◌, ◌<◌, ◌∙◌, sym, ap, ◌&&◌, not, Bool, true, false, arith}
 use Rattle.call_table.specs.declared.limit.TheConstants.{STEPS}
 use Rattle.user_spec.specs.Request.{is_local_call}
 use Rattle.user_ctx.specs.Calling.{is_calling}
