@@ -1,5 +1,6 @@
-// Two runs side by side.
+// A run beside another one, and beside what its events came to.
 use call_table::{Named, PidState};
+use one_node::home::Outcome;
 use shell_text::Run;
 
 /// How many processes are told in a state.
@@ -35,13 +36,18 @@ fn are_same_files(one: &[Named], other: &[Named]) -> bool {
     true
 }
 
-/// Whether both are runs, with the same terminal, the same files and the same ends.
-pub fn is_same(one: &Option<Run>, other: &Option<Run>) -> bool {
-    let (Some(one), Some(other)) = (one, other) else {
-        return false;
-    };
+/// Whether two runs came to the same terminal, files and ends.
+pub fn is_same(one: &Run, other: &Run) -> bool {
     one.last == other.last
         && one.terminal.as_slice() == other.terminal.as_slice()
         && are_same_files(one.files.as_slice(), other.files.as_slice())
         && are_same_ends(one.statuses.as_slice(), other.statuses.as_slice())
+}
+
+/// Whether a run is told by what its events came to on one node: process by process, and call by call.
+pub fn is_told_by(run: &Run, outcome: &Outcome) -> bool {
+    run.statuses.as_slice() == outcome.statuses.as_slice()
+        && run.terminal.as_slice() == outcome.terminal.as_slice()
+        && are_same_files(run.files.as_slice(), outcome.files.as_slice())
+        && run.replies.as_slice() == outcome.replies.as_slice()
 }

@@ -6,15 +6,17 @@ ghost use Rattle.std.specs.Prelude.{◌≤◌};
 
 mod case;
 mod compare;
+mod replay;
 mod worked;
 
 use call_table::{NoMemory, Text, Words};
 use case::{NoCase, case_of};
-use compare::is_same;
+use compare::{is_same, is_told_by};
 use mosix_shell::usher::mosix_usher;
 use outside::{Calls, MemImages, MemSink, MemSource, StillGate};
 use rand_core::SeedableRng;
 use rand_pcg::Pcg32;
+use replay::replayed;
 use shell_text::Run;
 use std::alloc::{AllocGlobal, Global};
 use std::io;
@@ -97,6 +99,25 @@ fn run<H: Threads + Wait + Sync>(
     Ok(ended.run)
 }
 
+/// Whether the run of a script on so many nodes comes to what it came to on one, and to what its own events come to there.
+fn is_as_one<H: Threads + Wait + Sync>(
+    rt: &H,
+    alloc: Global,
+    seed: u64,
+    nodes: u8,
+    one: &Run,
+) -> Result<bool, NoCase>
+    requires { 1 ≤ nodes }
+{
+    let Some(other) = run(rt, alloc, &words_on(alloc, nodes)?, seed, nodes)? else {
+        return Ok(false);
+    };
+    let Some(outcome) = replayed(alloc, seed, nodes, other.events.as_slice())? else {
+        return Ok(false);
+    };
+    Ok(is_same(one, &other) && is_told_by(&other, &outcome))
+}
+
 /// The runs of one script.
 fn runs_of<H: Threads + Wait + Sync>(
     rt: &H,
@@ -104,10 +125,12 @@ fn runs_of<H: Threads + Wait + Sync>(
     seed: u64,
     count: &mut Count,
 ) -> Result<(), NoCase> {
-    let one = run(rt, alloc, &words_of(alloc, ONE)?, seed, 1)?;
+    let Some(one) = run(rt, alloc, &words_of(alloc, ONE)?, seed, 1)? else {
+        return Err(NoCase);
+    };
     for nodes in 2..9u8 {
-        let other = run(rt, alloc, &words_on(alloc, nodes)?, seed, nodes)?;
-        count.add(seed, nodes, is_same(&one, &other));
+        let is_same = is_as_one(rt, alloc, seed, nodes, &one)?;
+        count.add(seed, nodes, is_same);
     }
     Ok(())
 }
@@ -135,7 +158,10 @@ fn main(rt: HostRuntime) -> io::Result<()> {
     let Some(count) = all_runs(&rt)? else {
         return println!(rt; "out of memory, or a text that the assembler refuses");
     };
-    println!(rt; "{} runs on threads, {} of them as on one node", count.runs, count.same)?;
+    println!(rt;
+        "{} runs on threads, {} of them as on one node",
+        count.runs, count.same
+    )?;
     if let Some((seed, nodes)) = count.first {
         println!(rt; "the first other one: seed {seed} on {nodes} nodes")?;
     }
