@@ -66,7 +66,7 @@ fn words_of(alloc: Global, text: &str) -> Result<Words, NoMemory> {
 
 /// The words of a run on threads.
 fn words_on(alloc: Global, nodes: u8) -> Result<Words, NoMemory> {
-    let text = format!(in alloc; "--nodes {nodes} --quantum 4096 run")?;
+    let text = format!(in alloc; "--nodes {nodes} --quantum 4096 --journal 16384 run")?;
     let words = words_of(alloc, text.as_str())?;
     Ok(words)
 }
