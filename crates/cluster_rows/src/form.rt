@@ -51,10 +51,29 @@ fn kept_lines(alloc: Global, text: &str, form: &str) -> Result<Bytes, NoMemory> 
     Ok(lines)
 }
 
+/// How many event lines a text has of each of some words.
+fn counted(alloc: Global, text: &str, words: &str) -> Result<Bytes, NoMemory> {
+    let mut lines = Bytes::new(alloc);
+    for word in words.split(' ') {
+        let events = text
+            .split('\n')
+            .filter(|line| event_of(line, word).is_some());
+        let line = format!(in alloc; "{word} {}", events.count())?;
+        push_line(&mut lines, line.as_str())?;
+    }
+    Ok(lines)
+}
+
 /// What is looked at of an output in a form.
 pub fn seen(alloc: Global, output: &[u8], form: &str) -> Result<Bytes, NoMemory> {
-    match str::from_utf8(output) {
-        Ok(text) if form != "report" => kept_lines(alloc, text, form),
-        _ => Bytes::from_slice(alloc, output),
+    let Ok(text) = str::from_utf8(output) else {
+        return Bytes::from_slice(alloc, output);
+    };
+    if form == "report" {
+        return Bytes::from_slice(alloc, output);
+    }
+    match form.strip_prefix("counts ") {
+        Some(words) => counted(alloc, text, words),
+        None => kept_lines(alloc, text, form),
     }
 }

@@ -1,8 +1,10 @@
 // Plays the worked rows of the cluster by the call that the program makes, with script, images and report in memory. Standard input has them, line by line. A
 // line that is empty or begins with two blanks is text, and belongs to the line before it that is none:
-// `row NAME` begins a row; `program NAME` has the text of an assembler program, which stays for all rows; `script` has a script; `report`, `parts` and
-// `events WORD ..` have what is wanted: the whole report, the report without the outcomes of moves, or the event lines of these words without their stamps.
-// `run STATUS WORD ..` plays the script by these words of the program, `moved` the same where a process has to move, and `still` the script without its moves.
+// `row NAME` begins a row; `program NAME` has the text of an assembler program, whose image stays for all rows; `script` has a script; `report`, `parts`,
+// `events WORD ..` and `counts WORD ..` have what is wanted: the whole report, the report without the outcomes of moves, the event lines of these words without
+// their stamps, or how many there are of each.
+// `run STATUS WORD ..` plays the script by these words of the program, and prints whether status and report are as wanted; `moved` is the same where a process has
+// to move, `still` plays the script without its moves, and `bare` has a policy that chooses no move.
 #![tactic(auto)]
 
 mod form;
@@ -36,7 +38,7 @@ fn told<H: Threads + Wait + Sync>(
     let (word, rest) = line.split_once(' ').unwrap_or((line, ""));
     match word {
         "row" => Ok(Some(String::from_str(alloc, rest)?)),
-        "run" | "moved" | "still" => Ok(Some(played(rt, alloc, record, word, rest)?)),
+        "run" | "bare" | "moved" | "still" => Ok(Some(played(rt, alloc, record, word, rest)?)),
         _ => Ok(None),
     }
 }

@@ -2,8 +2,10 @@
 use crate::form::seen;
 use crate::record::Record;
 use call_table::{Bytes, Named, Names, NoMemory, Text, Words};
+use mosix_shell::threads::mosix;
 use mosix_shell::usher::mosix_usher;
 use outside::{Calls, MemImages, MemSink, MemSource, StillGate};
+use policy_box::never_policy;
 use rand_core::SeedableRng;
 use rand_pcg::Pcg32;
 use std::alloc::Global;
@@ -33,7 +35,7 @@ fn copies(alloc: Global, files: &Names) -> Result<Names, NoMemory> {
     Ok(names)
 }
 
-/// The status of a run.
+/// The status of a run by the call that the program makes.
 fn status_by<H: Threads + Wait + Sync>(
     rt: &H,
     alloc: Global,
@@ -43,8 +45,23 @@ fn status_by<H: Threads + Wait + Sync>(
     sink: &mut MemSink,
 ) -> u8 {
     let mut rng = Pcg32::seed_from_u64(1);
-    let ended = mosix_usher(
-        rt, alloc, words, source, images, sink, &mut rng, &StillGate,
+    let ended = mosix_usher(rt, alloc, words, source, images, sink, &mut rng, &StillGate);
+    ended.status
+}
+
+/// The status of a run in which no node chooses a move.
+fn bare_status<H: Threads + Wait + Sync>(
+    rt: &H,
+    alloc: Global,
+    words: &Words,
+    source: &mut MemSource,
+    images: &mut MemImages,
+    sink: &mut MemSink,
+) -> u8 {
+    let mut rng = Pcg32::seed_from_u64(1);
+    let policy = never_policy();
+    let ended = mosix(
+        rt, alloc, words, source, images, sink, &mut rng, &StillGate, &policy,
     );
     ended.status
 }
@@ -53,14 +70,17 @@ fn status_by<H: Threads + Wait + Sync>(
 fn run_in_memory<H: Threads + Wait + Sync>(
     rt: &H,
     alloc: Global,
-    words: &str,
+    play: (&str, &str),
     script: Bytes,
     files: &Names,
     sink: &mut MemSink,
 ) -> Result<u8, NoMemory> {
-    let words = words_of(alloc, words)?;
+    let words = words_of(alloc, play.1)?;
     let mut source = MemSource::new(script, Calls::new(alloc));
     let mut images = MemImages::new(copies(alloc, files)?, Calls::new(alloc));
+    if play.0 == "bare" {
+        return Ok(bare_status(rt, alloc, &words, &mut source, &mut images, sink));
+    }
     let status = status_by(rt, alloc, &words, &mut source, &mut images, sink);
     Ok(status)
 }
@@ -75,7 +95,9 @@ fn script_of(alloc: Global, script: &[u8], verb: &str) -> Result<Bytes, NoMemory
 
 /// Whether an output tells of a move.
 fn has_move(output: &[u8]) -> bool {
-    output.windows(6).any(|front| front == b"\nmove ".as_slice())
+    output
+        .windows(6)
+        .any(|front| front == b"\nmove ".as_slice())
 }
 
 /// Bytes as a text on one line, with a bar for each end of a line.
@@ -118,6 +140,6 @@ pub fn played<H: Threads + Wait + Sync>(
     let (_, words) = rest.split_once(' ').unwrap_or((rest, ""));
     let script = script_of(alloc, record.script.as_slice(), verb)?;
     let mut sink = MemSink::new(alloc, Calls::new(alloc), ROOM)?;
-    let status = run_in_memory(rt, alloc, words, script, &record.files, &mut sink)?;
+    let status = run_in_memory(rt, alloc, (verb, words), script, &record.files, &mut sink)?;
     compared(alloc, record, (verb, rest), status, sink.bytes())
 }

@@ -53,7 +53,7 @@ impl Record {
         match word {
             "program" => self.files.push(image_of(alloc, rest, text.as_slice())?)?,
             "script" => self.script = text,
-            "report" | "parts" | "events" => {
+            "report" | "parts" | "events" | "counts" => {
                 self.wanted = text;
                 self.form = head;
             }
