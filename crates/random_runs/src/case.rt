@@ -10,7 +10,7 @@ use std::alloc::Global;
 use work_gen::{Work, WorkError, work};
 
 /// Memory was wanting, or the assembler refused a text.
-#[derive(Clone, Copy, Debug, PartialEq, Eq)]
+#[derive(Clone, Copy)]
 pub struct NoCase;
 
 impl From<NoMemory> for NoCase {
@@ -37,7 +37,7 @@ fn drawn_script(alloc: Global, seed: u64, nodes: u8) -> Result<Bytes, NoMemory>
 {
     let mut chance = Pcg32::seed_from_u64(seed);
     let mut script = Bytes::new(alloc);
-    for pid in 1..2 + chance.next_u32() % 8 {
+    for pid in 1..2 + chance.next_u32() % 6 {
         let image = chance.next_u32() % 16;
         let moved = 1 + chance.next_u32() % pid;
         let to = chance.next_u32() % nodes as u32;
@@ -78,7 +78,7 @@ pub fn case_of(alloc: Global, seed: u64, nodes: u8) -> Result<Work, NoCase>
         return Ok(case);
     }
     let whole = work(alloc, seed, nodes)?;
-    if seed % 3 == 0 {
+    if seed % 6 == 0 {
         return Ok(whole);
     }
     let script = drawn_script(alloc, seed, nodes)?;

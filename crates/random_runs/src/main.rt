@@ -27,8 +27,11 @@ use std::time::{Clock, Duration, Instant};
 /// How many scripts there are. Each runs on 2 to 8 nodes.
 const SCRIPTS: u64 = 144;
 
+/// How many runs these are.
+const RUNS: u32 = 1008;
+
 /// No script is begun after so many seconds.
-const SECONDS: u64 = 60;
+const SECONDS: u64 = 90;
 
 /// How much a sink holds.
 const ROOM: usize = 65_536;
@@ -37,7 +40,7 @@ const ROOM: usize = 65_536;
 const ONE: &str = "--nodes 1 --serial run";
 
 /// How many runs there were, how many were the same, and the seed and the nodes of the first that was not.
-#[derive(Clone, Copy, Debug)]
+#[derive(Clone, Copy)]
 struct Count {
     runs: u32,
     same: u32,
@@ -162,6 +165,9 @@ fn main(rt: HostRuntime) -> io::Result<()> {
         "{} runs on threads, {} of them as on one node",
         count.runs, count.same
     )?;
+    if count.runs < RUNS {
+        println!(rt; "the rest was not begun in time")?;
+    }
     if let Some((seed, nodes)) = count.first {
         println!(rt; "the first other one: seed {seed} on {nodes} nodes")?;
     }
