@@ -124,7 +124,8 @@ fn moves(alloc: Global, home: &mut Node, other: &mut Node, rounds: u32) -> Resul
             hops: round,
             line: 1,
         };
-        hand(alloc, home, other, letter(0, 1 - to, go))?;
+        let from = if to == 0 { 1 } else { 0 };
+        hand(alloc, home, other, letter(0, from, go))?;
         turns = turns
             .saturating_add(1)
             .saturating_add(post(alloc, home, other)?);
@@ -144,6 +145,17 @@ fn both(alloc: Global, word: &str, task: &Task) -> Result<u32, NoMemory> {
     }
 }
 
+/// Changes a byte and copies all. The byte as it was copied.
+fn copy_once(from: &mut [u8], to: &mut [u8], round: u32) -> u32 {
+    let place = round as usize % 4096;
+    if place >= from.len() || from.len() != to.len() {
+        return 0;
+    }
+    from[place] = (round % 256) as u8;
+    to.copy_from_slice(from);
+    to[place] as u32
+}
+
 /// Copies of as many pages. The sum of a byte of each.
 fn copies(alloc: Global, task: &Task) -> Result<u32, NoMemory> {
     let size = task.pages.min(1024) as usize * 4096;
@@ -151,12 +163,8 @@ fn copies(alloc: Global, task: &Task) -> Result<u32, NoMemory> {
     let mut to = vec![in alloc; 0u8; size]?;
     let mut sum = 0u32;
     for round in 0..task.rounds {
-        let place = round as usize % 4096;
-        if let Some(byte) = from.get_mut(place) {
-            *byte = (round % 256) as u8;
-        }
-        to.as_mut_slice().copy_from_slice(from.as_slice());
-        sum = sum.wrapping_add(to.get(place).copied().unwrap_or(0) as u32);
+        let byte = copy_once(from.as_mut_slice(), to.as_mut_slice(), round);
+        sum = sum.wrapping_add(byte);
     }
     Ok(sum)
 }
