@@ -14,6 +14,7 @@ use call_table::NoMemory;
 use stage::{Stage, carry_out};
 use std::alloc::Global;
 use std::io;
+use std::rt::{Input, Print};
 
 /// What is printed at the end of a case.
 fn verdict(alloc: Global, stage: &Stage) -> Result<String, NoMemory> {
@@ -54,16 +55,20 @@ fn line(alloc: Global, stage: &mut Stage, line: &str) -> Result<Option<String>, 
     }
 }
 
-fn main(rt: HostRuntime) -> io::Result<()> {
-    let alloc = rt.alloc();
-    let mut stage = Stage::new(alloc);
+/// Plays each line of the input.
+fn play<R: Input + Print>(rt: &R, alloc: Global, stage: &mut Stage) -> io::Result<()> {
     for text in rt.lines(alloc) {
         let text = text?;
-        match line(alloc, &mut stage, text.as_str()) {
+        match line(alloc, stage, text.as_str()) {
             Ok(Some(told)) => println!(rt; "{told}")?,
             Ok(None) => {}
             Err(_) => println!(rt; "out of memory")?,
         }
     }
     Ok(())
+}
+
+fn main(rt: HostRuntime) -> io::Result<()> {
+    let mut stage = Stage::new(rt.alloc());
+    play(&rt, rt.alloc(), &mut stage)
 }
