@@ -14,7 +14,6 @@ use call_table::NoMemory;
 use stage::{Stage, carry_out};
 use std::alloc::Global;
 use std::io;
-use std::rt::{Input, Print};
 
 /// What is printed at the end of a case.
 fn verdict(alloc: Global, stage: &Stage) -> Result<String, NoMemory> {
