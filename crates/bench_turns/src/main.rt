@@ -16,6 +16,7 @@ use user_ctx::{User, Users};
 const CALLS: [u32; 3] = [0x0030_0893, 0x0000_0073, 0xFF9F_F06F];
 
 /// What is measured, how many rounds, and how many pages a process has.
+#[derive(Clone, Copy)]
 struct Task {
     rounds: u32,
     pages: u32,
