@@ -47,8 +47,8 @@ fn process(alloc: Global, count: u32) -> Result<User, NoMemory> {
     Ok(User::new(0x1000, 0, 0, 0, pages, 0x50_0000))
 }
 
-/// Home, which launches one process.
-fn home(alloc: Global, pages: u32) -> Result<Node, NoMemory> {
+/// A script that launches one process.
+fn script(alloc: Global) -> Result<Script, NoMemory> {
     let mut script = Script::new(alloc);
     script.push(ScriptLine {
         line: 1,
@@ -56,8 +56,20 @@ fn home(alloc: Global, pages: u32) -> Result<Node, NoMemory> {
             words: Words::new(alloc),
         },
     })?;
+    Ok(script)
+}
+
+/// The context of that process.
+fn users(alloc: Global, pages: u32) -> Result<Users, NoMemory> {
     let mut users = Users::new(alloc);
     users.push(process(alloc, pages)?)?;
+    Ok(users)
+}
+
+/// Home, which launches it.
+fn home(alloc: Global, pages: u32) -> Result<Node, NoMemory> {
+    let script = script(alloc)?;
+    let users = users(alloc, pages)?;
     Node::home(alloc, shape(), Plan { script, users })
 }
 
@@ -96,13 +108,18 @@ fn post(alloc: Global, home: &mut Node, other: &mut Node) -> Result<u32, NoMemor
 }
 
 /// Pokes of a process that is not there: a turn each.
-fn pokes(alloc: Global, rounds: u32) -> Result<u32, NoMemory> {
-    let mut node = Node::away(alloc, 1, shape())?;
+fn poke(alloc: Global, node: &mut Node, rounds: u32) -> Result<u32, NoMemory> {
     for _ in 0..rounds {
         let letter = letter(0, 1, Message::Poke { pid: 1 });
         let _turned = node.turn(alloc, Some(letter), &never_policy())?;
     }
     Ok(node.journal().len().min(9_999_999) as u32)
+}
+
+/// A node, and pokes there.
+fn pokes(alloc: Global, rounds: u32) -> Result<u32, NoMemory> {
+    let mut node = Node::away(alloc, 1, shape())?;
+    poke(alloc, &mut node, rounds)
 }
 
 /// Calls that home serves to a process of its own: some steps, the call, its service and its return, a turn each.
@@ -134,16 +151,32 @@ fn moves(alloc: Global, home: &mut Node, other: &mut Node, rounds: u32) -> Resul
     Ok(turns)
 }
 
-/// Both nodes, and what is measured on them.
-fn both(alloc: Global, word: &str, task: &Task) -> Result<u32, NoMemory> {
-    let mut home = home(alloc, task.pages)?;
-    let mut other = Node::away(alloc, 1, shape())?;
+/// What is measured on both nodes, once the process is launched.
+fn launched(
+    alloc: Global,
+    home: &mut Node,
+    other: &mut Node,
+    word: &str,
+    task: &Task,
+) -> Result<u32, NoMemory> {
     let _launched = home.turn(alloc, None, &never_policy())?;
     if word == "calls" {
-        call(alloc, &mut home, &mut other, task.rounds)
+        call(alloc, home, other, task.rounds)
     } else {
-        moves(alloc, &mut home, &mut other, task.rounds)
+        moves(alloc, home, other, task.rounds)
     }
+}
+
+/// The other node, and what is measured on both.
+fn beside(alloc: Global, home: &mut Node, word: &str, task: &Task) -> Result<u32, NoMemory> {
+    let mut other = Node::away(alloc, 1, shape())?;
+    launched(alloc, home, &mut other, word, task)
+}
+
+/// Home, the other node, and what is measured on both.
+fn both(alloc: Global, word: &str, task: &Task) -> Result<u32, NoMemory> {
+    let mut home = home(alloc, task.pages)?;
+    beside(alloc, &mut home, word, task)
 }
 
 /// Changes a byte and copies all. The byte as it was copied.
