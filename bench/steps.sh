@@ -6,7 +6,7 @@
 set -euo pipefail
 cd "$(dirname "$0")/.."
 exec python3 - "${1:-}" <<'PYTHON'
-import os, re, shutil, struct, subprocess, sys, tempfile
+import os, re, resource, shutil, struct, subprocess, sys, tempfile
 
 PROGRAM = "crates/bench_steps/out/bench_steps"
 # A counting loop, a sieve, a copy, loads and stores, the same with data in the code's page, calls (a recursive Fibonacci),
@@ -27,11 +27,11 @@ def image(words, start):
 
 
 def run(command):
-    """The processor seconds of a run, and what was written."""
-    before = os.times()
+    """The processor seconds of a run, to the microsecond, and what was written."""
+    before = resource.getrusage(resource.RUSAGE_CHILDREN)
     done = subprocess.run(command, capture_output=True, text=True)
-    after = os.times()
-    seconds = after.children_user + after.children_system - before.children_user - before.children_system
+    after = resource.getrusage(resource.RUSAGE_CHILDREN)
+    seconds = after.ru_utime + after.ru_stime - before.ru_utime - before.ru_stime
     return seconds, done.stdout + done.stderr
 
 
