@@ -12,8 +12,8 @@ use std::alloc::Global;
 use std::sync::Wait;
 use std::thread::Threads;
 
-/// How much a report may have.
-const ROOM: usize = 1_048_576;
+/// How many bytes a sink has room for: more than any of these reports has.
+const ROOM: usize = 1_000_000;
 
 /// The words of a text, with one blank between two of them.
 fn words_of(alloc: Global, text: &str) -> Result<Words, NoMemory> {
