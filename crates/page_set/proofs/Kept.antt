@@ -152,6 +152,9 @@ granted_kept : (r : Result (List ℕ) ℕ) (old new : PageMap) (addr n : ℕ) (b
 granted_kept (Ok _) old new addr n bs e kept = subst (IsCounted n) (ok_ok (with_bytes old addr bs) new e) (bytes_counted old addr n bs kept)
 granted_kept (Err a) old new addr n bs e kept = absurd (err_ok a new e)
 
+pub stored_kept : (old new : PageMap) (addr n : ℕ) (bs : List ℕ) → stored old addr bs ≡ Ok new → IsCounted n old → IsCounted n new
+stored_kept old new addr n bs e kept = granted_kept (bytes_at old 2 addr (length bs)) old new addr n bs e kept
+
 pub store_kept : {T E : Type 0} (Q : E → Type 0) (r : Result T E) (old new : PageMap) (addr n : ℕ) (bs : List ℕ) → MatchResult r (λ _. stored old addr bs ≡ Ok new) Q → OnErr r (new ≡ old) → IsCounted n old → IsCounted n new
 store_kept Q (Ok _) old new addr n bs h same kept = granted_kept (bytes_at old 2 addr (length bs)) old new addr n bs h kept
 store_kept Q (Err _) old new addr n bs h same kept = same_kept old new n same kept

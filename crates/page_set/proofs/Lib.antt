@@ -10,3 +10,4 @@ pub mod Kept
 pub mod Copies
 pub mod Ranges
 pub mod Lengths
+pub mod Entries

@@ -6,7 +6,8 @@ use Rattle.std.specs.Cmp.{nat_cmp_total}
 use Rattle.std.specs.FinMap as map
 use Rattle.std.proofs.lemmas.Bool.Decides.{nat_tests, eqb_tells}
 use Rattle.page_set.specs.Pages.{Page, PageMap, put_page}
-use Rattle.page_set.specs.Tree.{Tree, frame_at, page_at, page_of, with_page, map_below, pages_of, IsEdited}
+use Rattle.page_set.specs.declared.frame.Frame.{Frame}
+use Rattle.page_set.specs.Tree.{Tree, frame_at, page_at, page_of, with_page, map_below, pages_of, pages_by, IsEdited}
 
 -- the key of an insertion, and the other keys
 pub get_inserted : (m : PageMap) (k : ℕ) (p : Page) → map.get (map.insert m k p) k ≡ Some p
@@ -45,6 +46,9 @@ get_below f (suc n) q h =
       | inr e ↦ get_with_page_other (map_below f n) n q (f n) e.1 ∙ get_below f n q (omega arith)
     ]
 
+pub get_pages_by : (frames : ℕ → Option Frame) (page : ℕ) → page < 2 ^ 20 → map.get (pages_by frames) page ≡ option_map page_of (frames page)
+get_pages_by frames page h = get_below (λ n. option_map page_of (frames n)) (2 ^ 20) page h
+
 pub get_pages_of : (tree : Tree) (page : ℕ) → page < 2 ^ 20 → map.get (pages_of tree) page ≡ option_map page_of (frame_at tree page)
 get_pages_of tree page h = get_below (page_at tree) (2 ^ 20) page h
 
@@ -82,6 +86,15 @@ pub below_same : (f g : ℕ → Option Page) (n : ℕ) → ((q : ℕ) → g q �
 unfolding map_below
 below_same f g zero h = refl
 below_same f g (suc n) h = ap (λ o. with_page (map_below g n) n o) (h n) ∙ ap (λ m. with_page m n (f n)) (below_same f g n h)
+
+-- functions that are equal below n
+pub below_alike : (f g : ℕ → Option Page) (n : ℕ) → ((q : ℕ) → q < n → g q ≡ f q) → map_below g n ≡ map_below f n
+unfolding map_below
+below_alike f g zero h = refl
+below_alike f g (suc n) h = ap (λ o. with_page (map_below g n) n o) (h n (omega arith)) ∙ ap (λ m. with_page m n (f n)) (below_alike f g n (λ q lt. h q (omega (arith, lt))))
+
+pub alike_pages : (old new : ℕ → Option Frame) → ((q : ℕ) → q < 2 ^ 20 → new q ≡ old q) → pages_by new ≡ pages_by old
+alike_pages old new h = below_alike (λ n. option_map page_of (old n)) (λ n. option_map page_of (new n)) (2 ^ 20) (λ q lt. ap (option_map page_of) (h q lt))
 
 pub same_pages : (old new : Tree) → ((q : ℕ) → frame_at new q ≡ frame_at old q) → pages_of new ≡ pages_of old
 same_pages old new h = below_same (page_at old) (page_at new) (2 ^ 20) (λ q. ap (option_map page_of) (h q))

@@ -1,12 +1,12 @@
 -- An edit of a leaf, and of the leaf in the tree.
-use Rattle.std.proofs.Common.{◌≡◌, ◌≢◌, inl, inr, ℕ, zero, suc, ◌/◌, ◌%◌, ◌<◌, List, [], ◌∷◌, refl, ap, ◌∙◌, sym, arith, Option, Some, None, length, set, replicate, ◌++◌}
+use Rattle.std.proofs.Common.{◌≡◌, ◌≢◌, inl, inr, ℕ, zero, suc, ◌/◌, ◌%◌, ◌<◌, List, [], ◌∷◌, refl, ap, ◌∙◌, sym, arith, true, Option, Some, None, is_some, length, set, replicate, ◌++◌}
 use Rattle.std.proofs.lemmas.Bool.Decides.{eqb_tells}
 use Rattle.std.specs.List.{slice_get}
 use Rattle.std.specs.declared.boxed.Box.{Box}
 use Rattle.std.specs.declared.alloc.Global.{Global}
 use Rattle.page_set.specs.declared.frame.Frame.{Frame}
 use Rattle.page_set.specs.declared.frame.Leaf.{Leaf}
-use Rattle.page_set.specs.Tree.{Tree, content_of, leaf_at, frame_in, frame_at, IsEdited, IsEditedLeaf}
+use Rattle.page_set.specs.Tree.{Tree, content_of, leaf_at, frame_in, frame_at, IsEdited, IsEditedLeaf, LeavesStay}
 
 pub slice_get_set : {A : Type 0} (xs : List A) (i : ℕ) (v : A) → i < length xs → slice_get (set xs i v) i ≡ Some v
 slice_get_set [] i v h = absurd (omega arith)
@@ -41,6 +41,17 @@ tree_set old new page leaf leaf2 b frame h was is e edit =
         | inr s ↦ ap (λ p. frame_in (content_of p) (q % 1024)) (ap (λ t. slice_get t (q / 1024)) e ∙ slice_get_set_other old (page / 1024) (q / 1024) (Some b) s.1)
       ];
     }
+
+pub same_leaves : (old new : Tree) → new ≡ old → LeavesStay old new
+same_leaves old new e = record { each = λ n h. ap (λ t. is_some (leaf_at t n)) e ∙ h }
+
+pub leaves_stay : (old new : Tree) (first : ℕ) (b : Box Leaf Global) → first < length old → new ≡ set old first (Some b) → LeavesStay old new
+leaves_stay old new first b h e = record {
+  each = λ n there. elim (eqb_tells n first) as (λ _. is_some (leaf_at new n) ≡ true) [
+    | inl s ↦ ap (λ p. is_some (content_of p)) (ap (slice_get new) s.1 ∙ ap (λ t. slice_get t first) e ∙ slice_get_set old first (Some b) h)
+    | inr s ↦ ap (λ p. is_some (content_of p)) (ap (λ t. slice_get t n) e ∙ slice_get_set_other old first n (Some b) s.1) ∙ there
+  ];
+}
 
 pub no_frames : (n j : ℕ) → content_of (slice_get (replicate {A = Option (Box Frame Global)} n None) j) ≡ None
 no_frames zero j = refl

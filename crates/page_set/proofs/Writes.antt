@@ -1,5 +1,5 @@
 -- Bytes written to one page, and to one after another.
-use Rattle.std.proofs.Common.{◌≡◌, inl, inr, ℕ, suc, ◌+◌, ◌/◌, ◌%◌, ◌^◌, ◌<◌, ◌≤◌, List, [], ◌∷◌, ◌++◌, refl, ap, ◌∙◌, sym, arith, true, false, Option, Some, None, Ok, Err, length, take, drop}
+use Rattle.std.proofs.Common.{◌≡◌, ◌≢◌, inl, inr, ℕ, suc, ◌+◌, ◌/◌, ◌%◌, ◌^◌, ◌<◌, ◌≤◌, List, [], ◌∷◌, ◌++◌, refl, ap, ◌∙◌, sym, arith, true, false, Option, Some, None, Ok, Err, length, take, drop}
 use Rattle.std.proofs.lemmas.List.{take-append-drop, length-take-le, length-drop, drop-drop}
 use Rattle.std.specs.Option.{option_map}
 use Rattle.std.specs.Cmp.{nat_cmp_total}
@@ -7,9 +7,9 @@ use Rattle.std.specs.FinMap as map
 use Rattle.std.proofs.lemmas.Bool.Decides.{eqb_tells}
 use Rattle.page_set.specs.Pages.{Page, PageMap, changed_page, page_with_byte, with_byte, with_bytes, where_granted, stored}
 use Rattle.page_set.specs.declared.frame.Frame.{Frame}
-use Rattle.page_set.specs.Tree.{Tree, frame_at, page_of, pages_of, grants, has_right, edited, set_part, written, IsEdited}
-use Rattle.page_set.proofs.Maps.{get_pages_of, pages_edited, get_inserted, get_inserted_other, get_removed, get_removed_other, same_pages}
-use Rattle.page_set.proofs.Accesses.{grants_0, reads, reads_none, next_page, next_at, next_addr}
+use Rattle.page_set.specs.Tree.{Tree, frame_at, page_of, pages_of, pages_by, grants, has_right, edited, set_part, written, IsEdited}
+use Rattle.page_set.proofs.Maps.{get_pages_of, get_pages_by, below_put, pages_edited, get_inserted, get_inserted_other, get_removed, get_removed_other, same_pages}
+use Rattle.page_set.proofs.Accesses.{grants_0, reads, reads_by, reads_none, next_page, next_at, next_addr}
 
 false_true : false ≡ true → ⊥
 false_true e = cc
@@ -17,7 +17,7 @@ false_true e = cc
 pub edited_granted : (right : ℕ) (edit : Frame → Frame) (f : Frame) → grants right f ≡ true → edited right edit (Some f) ≡ Some (edit f)
 edited_granted right edit f g = rw g refl
 
-edited_refused : (right : ℕ) (edit : Frame → Frame) (o : Option Frame) → has_right right o ≡ false → edited right edit o ≡ o
+pub edited_refused : (right : ℕ) (edit : Frame → Frame) (o : Option Frame) → has_right right o ≡ false → edited right edit o ≡ o
 edited_refused right edit None g = refl
 edited_refused right edit (Some f) g = rw g refl
 
@@ -64,12 +64,13 @@ writes_none b (c ∷ bs) m addr is lt h =
     ∙ ap (λ m. with_bytes m (addr + 1) (c ∷ bs)) (with_byte_none m addr b is)
     ∙ writes_none c bs m (addr + 1) (ap (map.get m) (next_page addr (length bs) h) ∙ is) (omega arith) (omega arith)
 
+edited_by : (old new : ℕ → Option Frame) (addr b : ℕ) (bs : List ℕ) (f : Frame) → old (addr / 4096) ≡ Some f → addr < 2 ^ 32 → addr % 4096 + suc (length bs) ≤ 4096 → new (addr / 4096) ≡ Some (written (addr % 4096) (b ∷ bs) f) → ((q : ℕ) → q ≢ addr / 4096 → new q ≡ old q) → pages_by new ≡ with_bytes (pages_by old) addr (b ∷ bs)
+edited_by old new addr b bs f is lt h here others =
+    below_put (λ n. option_map page_of (old n)) (λ n. option_map page_of (new n)) (2 ^ 20) (addr / 4096) (option_map page_of (Some (written (addr % 4096) (b ∷ bs) f))) (omega arith) (ap (option_map page_of) here) (λ q ne. ap (option_map page_of) (others q ne))
+    ∙ sym (writes b bs (pages_by old) addr (page_of f) (get_pages_by old (addr / 4096) (omega arith) ∙ ap (option_map page_of) is) lt h)
+
 edited_some : (old new : Tree) (addr right b : ℕ) (bs : List ℕ) (f : Frame) → frame_at old (addr / 4096) ≡ Some f → grants right f ≡ true → addr < 2 ^ 32 → addr % 4096 + suc (length bs) ≤ 4096 → IsEdited old new (addr / 4096) (edited right (written (addr % 4096) (b ∷ bs)) (Some f)) → pages_of new ≡ with_bytes (pages_of old) addr (b ∷ bs)
-edited_some old new addr right b bs f is g lt h e =
-    let edit = written (addr % 4096) (b ∷ bs) in
-    let done : IsEdited old new (addr / 4096) (Some (edit f)) = record { here = e.here ∙ edited_granted right edit f g; others = e.others } in
-    pages_edited old new (addr / 4096) (Some (edit f)) (omega arith) done
-    ∙ sym (writes b bs (pages_of old) addr (page_of f) (get_pages_of old (addr / 4096) (omega arith) ∙ ap (option_map page_of) is) lt h)
+edited_some old new addr right b bs f is g lt h e = edited_by (frame_at old) (frame_at new) addr b bs f is lt h (e.here ∙ edited_granted right (written (addr % 4096) (b ∷ bs)) f g) e.others
 
 edited_none : (old new : Tree) (addr b : ℕ) (bs : List ℕ) → frame_at old (addr / 4096) ≡ None → addr < 2 ^ 32 → addr % 4096 + suc (length bs) ≤ 4096 → IsEdited old new (addr / 4096) None → pages_of new ≡ with_bytes (pages_of old) addr (b ∷ bs)
 edited_none old new addr b bs is lt h e =
@@ -85,6 +86,12 @@ stores_at old new addr b bs None is g lt h e = absurd (false_true g)
 stores_at old new addr b bs (Some f) is g lt h e =
     ap (λ r. where_granted r (with_bytes (pages_of old) addr (b ∷ bs))) (reads (suc (length bs)) old 2 addr f is g lt h)
     ∙ ap (λ (m : PageMap). Ok m) (sym (edited_some old new addr 2 b bs f is g lt h e))
+
+pub stores_by : (old new : ℕ → Option Frame) (addr : ℕ) (bs : List ℕ) (f : Frame) → old (addr / 4096) ≡ Some f → grants 2 f ≡ true → addr < 2 ^ 32 → 0 < length bs → addr % 4096 + length bs ≤ 4096 → new (addr / 4096) ≡ Some (written (addr % 4096) bs f) → ((q : ℕ) → q ≢ addr / 4096 → new q ≡ old q) → stored (pages_by old) addr bs ≡ Ok (pages_by new)
+stores_by old new addr [] f is g lt some h here others = absurd (omega arith)
+stores_by old new addr (b ∷ bs) f is g lt some h here others =
+    ap (λ r. where_granted r (with_bytes (pages_by old) addr (b ∷ bs))) (reads_by (suc (length bs)) old 2 addr f is g lt h)
+    ∙ ap (λ (m : PageMap). Ok m) (sym (edited_by old new addr b bs f is lt h here others))
 
 -- bytes stored to one page that can be written
 pub stores : (old new : Tree) (addr at : ℕ) (bs : List ℕ) → at ≡ addr % 4096 → addr < 2 ^ 32 → 0 < length bs → at + length bs ≤ 4096 → has_right 2 (frame_at old (addr / 4096)) ≡ true → IsEdited old new (addr / 4096) (edited 2 (written at bs) (frame_at old (addr / 4096))) → stored (pages_of old) addr bs ≡ Ok (pages_of new)

@@ -43,6 +43,10 @@ unfoldable pub map_below : (ℕ → Option Page) → ℕ → PageMap
 map_below f zero = map.empty
 map_below f (suc n) = with_page (map_below f n) n (f n)
 
+-- the pages whose frames a function gives
+abbrev pub pages_by : (ℕ → Option Frame) → PageMap
+pages_by frames = map_below (λ page. option_map page_of (frames page)) (2 ^ 20)
+
 abbrev pub pages_of : Tree → PageMap
 pages_of tree = map_below (page_at tree) (2 ^ 20)
 
@@ -60,6 +64,10 @@ pub record IsEditedLeaf (old new : Leaf) (number : ℕ) (frame : Option Frame) :
 pub record IsEdited (old new : Tree) (page : ℕ) (frame : Option Frame) : Type 0 where
   pub here : frame_at new page ≡ frame
   pub others : (q : ℕ) → q ≢ page → frame_at new q ≡ frame_at old q
+
+-- every leaf that was there is there
+pub record LeavesStay (old new : Tree) : Type 0 where
+  pub each : (n : ℕ) → IsSome (leaf_at old n) → IsSome (leaf_at new n)
 
 -- equal frames
 pub record IsSameLeaf (old new : Leaf) : Type 0 where

@@ -185,7 +185,7 @@ pub fn copy_in(leaves: &mut Vec<Option<Box<Leaf>>>, addr: u32, bytes: &[u8]) -> 
 // ---- loads and stores
 
 #[inline(always)]
-fn number_1(frame: &Frame, at: usize) -> u8
+pub fn number_1(frame: &Frame, at: usize) -> u8
     requires { at + 1 ≤ 4096 }
     ensures { result ≡ little (part 1 frame.now.bytes at) }
 {
@@ -194,7 +194,7 @@ fn number_1(frame: &Frame, at: usize) -> u8
 
 #[inline(always)]
 #[tactic(auto, using(crate::proofs::Parts::number_of_part))]
-fn number_2(frame: &Frame, at: usize) -> u16
+pub fn number_2(frame: &Frame, at: usize) -> u16
     requires { at + 2 ≤ 4096 }
     ensures { result ≡ little (part 2 frame.now.bytes at) }
 {
@@ -203,7 +203,7 @@ fn number_2(frame: &Frame, at: usize) -> u16
 
 #[inline(always)]
 #[tactic(auto, using(crate::proofs::Parts::number_of_part))]
-fn number_4(frame: &Frame, at: usize) -> u32
+pub fn number_4(frame: &Frame, at: usize) -> u32
     requires { at + 4 ≤ 4096 }
     ensures { result ≡ little (part 4 frame.now.bytes at) }
 {

@@ -2,13 +2,16 @@
 #![tactic(auto)]
 
 mod access;
+mod cached;
 mod copy;
+mod entry;
 mod frame;
 mod pages;
 mod range;
 mod tree;
 
 pub use access::Refused;
+pub use cached::CachedPages;
 pub use pages::Pages;
 pub use tree::NoPage;
 

@@ -14,8 +14,8 @@ use std::marker::Model;
 /// Pages by number, each with its bytes and rights.
 #[derive(Drop)]
 pub struct Pages {
-    leaves: Vec<Option<Box<Leaf>>>,
-    count: u32,
+    pub(crate) leaves: Vec<Option<Box<Leaf>>>,
+    pub(crate) count: u32,
 }
 
 impl Model for Pages {
@@ -46,7 +46,7 @@ impl Pages {
     }
 
     /// Where its memory comes from.
-    pub(crate) fn allocator(&self) -> Global {
+    pub fn allocator(&self) -> Global {
         *self.leaves.allocator()
     }
 

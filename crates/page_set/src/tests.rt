@@ -1,5 +1,5 @@
 // Worked cases of each call.
-use crate::{Pages, Refused};
+use crate::{CachedPages, Pages, Refused};
 use std::process::Abort;
 
 const READ: u8 = 4;
@@ -139,6 +139,60 @@ fn ranges_are_mapped_counted_and_unmapped(rt: HostRuntime) {
     pages.add_rights(1031, 4);
     assert_eq!(rt; pages.load_2(1031 * 4096 + 4094, READ), Ok(0x0201));
     to_another_thread(pages);
+}
+
+/// Stores a number in each of some pages and loads it again, so often that each is cached and gives way to others.
+fn go_round(rt: &impl Abort, cached: &mut CachedPages, first: u32, end: u32) {
+    for round in 0..40u32 {
+        for page in first..end {
+            let number = page % 0x1000;
+            let addr = number * 4096 + 4 * round;
+            assert!(rt; cached.store_4(addr, number + round));
+            assert_eq!(rt; cached.load_4(addr), Some(number + round));
+        }
+    }
+}
+
+#[test]
+fn cached_pages_are_the_same_pages(rt: HostRuntime) {
+    let mut pages = Pages::new(rt.alloc());
+    map(&rt, &mut pages, 0x80, 0xA8);
+    assert!(rt; !pages.is_mapped(0x20));
+    assert_eq!(rt; pages.map_zero(0x20, READ), Ok(()));
+    assert!(rt; !pages.is_mapped(0x21));
+    assert_eq!(rt; pages.map_zero(0x21, WRITE), Ok(()));
+    let mut cached = CachedPages::new(pages);
+    go_round(&rt, &mut cached, 0x80, 0xA8);
+    for _round in 0..40u32 {
+        assert_eq!(rt;
+            (cached.load_1(0x20FFF), cached.store_1(0x20FFF, 1)),
+            (Some(0), false)
+        );
+        assert_eq!(rt;
+            (cached.load_1(0x21FFF), cached.store_1(0x21FFF, 1)),
+            (None, true)
+        );
+        assert_eq!(rt;
+            (cached.load_2(0x22000), cached.store_2(0x22000, 1)),
+            (None, false)
+        );
+        assert_eq!(rt;
+            (cached.load_2(0x80FFF), cached.store_2(0x80FFF, 1)),
+            (None, false)
+        );
+        assert_eq!(rt;
+            (cached.load_2(0x80FFE), cached.store_2(0x80FFE, 0x0201)),
+            (Some(0), true)
+        );
+        assert!(rt; cached.store_2(0x80FFE, 0));
+    }
+    let pages = cached.into_pages();
+    assert_eq!(rt;
+        (pages.count(), pages.rights(0x20), pages.rights(0x21)),
+        (42, Some(4), Some(2))
+    );
+    assert_eq!(rt; pages.load_4(0x90 * 4096 + 4 * 39, READ), Ok(0x90 + 39));
+    assert_eq!(rt; pages.byte(0x21FFF), Some(1));
 }
 
 /// Takes what may cross threads.

@@ -3,7 +3,7 @@ ghost use Rattle.std.specs.Prelude.{ℕ, ◌≡◌, ◌<◌, ◌≤◌, ◌+◌,
 ghost use Rattle.std.specs.FinMap as map;
 ghost use Rattle.std.specs.Option.{option_map, option_copied};
 ghost use Rattle.page_set.specs.Pages.{WellFormed, NoneFrom, IsNext, zero_page, changed_page, page_with_rights, page_with_part};
-ghost use Rattle.page_set.specs.Tree.{NoFrameFrom, NoPageIn, IsNextFrame, leaf_at, frame_in, frame_at, content_of, grants, has_right, edited, written, with_rights, IsEditedLeaf, IsEdited, IsSameLeaf, pages_of, page_of};
+ghost use Rattle.page_set.specs.Tree.{NoFrameFrom, NoPageIn, IsNextFrame, leaf_at, frame_in, frame_at, content_of, grants, has_right, edited, written, with_rights, IsEditedLeaf, IsEdited, IsSameLeaf, LeavesStay, pages_of, page_of};
 
 use crate::frame::{Frame, Leaf};
 use std::alloc::{AllocError, AllocFailed, Global};
@@ -141,7 +141,7 @@ pub fn has(frame: &Frame, right: u8) -> bool
 
 #[inline(always)]
 #[tactic(auto, using(crate::proofs::Parts::put_mid_is))]
-fn write_frame(frame: &mut Frame, at: usize, bytes: &[u8])
+pub fn write_frame(frame: &mut Frame, at: usize, bytes: &[u8])
     requires { at + length bytes.now ≤ 4096 }
     ensures { frame.new ≡ written at bytes.now frame.old }
 {
@@ -173,7 +173,7 @@ fn write_leaf(leaf: &mut Leaf, number: u32, right: u8, at: usize, bytes: &[u8]) 
 
 /// Writes bytes to a page from an offset on, where it is there and has the right.
 #[inline(always)]
-#[tactic(auto, using(crate::proofs::Trees::tree_set))]
+#[tactic(auto, using(crate::proofs::Trees::tree_set, crate::proofs::Trees::leaves_stay, crate::proofs::Trees::same_leaves))]
 pub fn write_page(
     leaves: &mut Vec<Option<Box<Leaf>>>,
     page: u32,
@@ -184,6 +184,7 @@ pub fn write_page(
     requires { at + length bytes.now ≤ 4096 }
     ensures is { result ≡ has_right right (frame_at leaves.old.items page) }
     ensures new { IsEdited leaves.old.items leaves.new.items page (edited right (written at bytes.now) (frame_at leaves.old.items page)) }
+    ensures leaves { LeavesStay leaves.old.items leaves.new.items }
 {
     let first = (page / 1024) as usize;
     if first >= leaves.len() {
@@ -243,15 +244,40 @@ pub fn place_in_leaf(leaf: &mut Leaf, number: u32, place: Option<Box<Frame>>)
 }
 
 /// Puts a frame, or none, at a page whose leaf is there.
-#[tactic(auto, using(crate::proofs::Trees::tree_set))]
-fn place(leaves: &mut Vec<Option<Box<Leaf>>>, page: u32, place: Option<Box<Frame>>)
+#[tactic(auto, using(crate::proofs::Trees::tree_set, crate::proofs::Trees::leaves_stay))]
+pub fn place(leaves: &mut Vec<Option<Box<Leaf>>>, page: u32, place: Option<Box<Frame>>)
     requires { IsSome (leaf_at leaves.old.items (page / 1024)) }
-    ensures { IsEdited leaves.old.items leaves.new.items page (content_of (Some place)) }
+    ensures new { IsEdited leaves.old.items leaves.new.items page (content_of (Some place)) }
+    ensures leaves { LeavesStay leaves.old.items leaves.new.items }
 {
     let first = (page / 1024) as usize;
     match &mut leaves[first] {
         None => unreachable!(),
         Some(leaf) => place_in_leaf(&mut **leaf, page % 1024, place),
+    }
+}
+
+#[tactic(auto, using(crate::proofs::Trees::leaf_set))]
+fn take_out_of_leaf(leaf: &mut Leaf, number: u32) -> Option<Box<Frame>>
+    requires { number < 1024 }
+    ensures is { content_of (Some result) ≡ frame_in (Some leaf.old) number }
+    ensures new { IsEditedLeaf leaf.old leaf.new number None }
+{
+    leaf.frames[number as usize].take()
+}
+
+/// Takes the frame of a page, whose leaf is there, out of it.
+#[tactic(auto, using(crate::proofs::Trees::tree_set, crate::proofs::Trees::leaves_stay))]
+pub fn take(leaves: &mut Vec<Option<Box<Leaf>>>, page: u32) -> Option<Box<Frame>>
+    requires { IsSome (leaf_at leaves.old.items (page / 1024)) }
+    ensures is { content_of (Some result) ≡ frame_at leaves.old.items page }
+    ensures new { IsEdited leaves.old.items leaves.new.items page None }
+    ensures leaves { LeavesStay leaves.old.items leaves.new.items }
+{
+    let first = (page / 1024) as usize;
+    match &mut leaves[first] {
+        None => unreachable!(),
+        Some(leaf) => take_out_of_leaf(&mut **leaf, page % 1024),
     }
 }
 
