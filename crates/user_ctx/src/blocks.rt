@@ -12,7 +12,7 @@ use crate::place::Destination;
 use crate::step::{load_inside, store_inside};
 use crate::window::Window;
 use crate::windows::Windows;
-use page_set::Pages;
+use page_set::CachedPages;
 
 /// A block has no more instructions than this.
 const MOST_IN_BLOCK: u32 = 1024;
@@ -86,7 +86,7 @@ fn step_ready<const IS_SHORT: bool>(
     end: u32,
     place: &mut usize,
     x: &mut [u32; 32],
-    pages: &mut Pages,
+    pages: &mut CachedPages,
 ) -> Gone
     requires zero { x.old ≡ 0 ∷ drop 1 x.old }
     requires place { place.old ≤ 1024 }
@@ -198,7 +198,7 @@ fn run_long(
     slot: usize,
     pc: &mut u32,
     x: &mut [u32; 32],
-    pages: &mut Pages,
+    pages: &mut CachedPages,
     n: u32,
 ) -> (u32, Gone)
     requires zero { x.old ≡ 0 ∷ drop 1 x.old }
@@ -269,7 +269,7 @@ fn run_short(
     slot: usize,
     pc: &mut u32,
     x: &mut [u32; 32],
-    pages: &mut Pages,
+    pages: &mut CachedPages,
     n: u32,
 ) -> (u32, Gone)
     requires zero { x.old ≡ 0 ∷ drop 1 x.old }
@@ -317,7 +317,7 @@ pub fn run_blocks(
     slot: usize,
     pc: &mut u32,
     x: &mut [u32; 32],
-    pages: &mut Pages,
+    pages: &mut CachedPages,
     n: u32,
 ) -> (u32, Gone)
     requires zero { x.old ≡ 0 ∷ drop 1 x.old }

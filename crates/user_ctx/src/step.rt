@@ -1,7 +1,6 @@
 // One instruction, on pc, registers and pages.
 ghost use Rattle.std.specs.Prelude.{◌≡◌, ◌∷◌, drop, MatchResult, Ok, Err, OnErr, IfSome, true, false};
 ghost use Rattle.user_spec.specs.Words.{sign_filled};
-ghost use Rattle.page_set.specs.Pages.{loaded};
 ghost use Rattle.user_spec.specs.Instruction.{next_effect, load_as, store_as, one_instruction};
 ghost use Rattle.user_ctx.specs.Stopping.{core};
 ghost use Rattle.user_ctx.specs.Windows.{Stored};
@@ -9,7 +8,7 @@ ghost use Rattle.user_ctx.specs.Windows.{Stored};
 use crate::effect::{effect, set_register};
 use call_table::signal::{SIGILL, SIGSEGV};
 use call_table::{RIGHT_READ, RIGHT_RUN};
-use page_set::{Pages, Refused};
+use page_set::{CachedPages, Pages, Refused};
 use rv_decode::decode;
 use user_spec::effect::{Effect, Form, Width};
 use user_spec::outcome::Outcome;
@@ -55,70 +54,32 @@ pub fn store(pages: &mut Pages, addr: u32, value: u32, width: Width) -> Result<(
     }
 }
 
-/// The byte at an address, where it can be read.
+/// A load whose bytes lie in one page, where they can be read: nothing is called on the way to a cached page, so LLVM needs
+/// no answer in a register where the ways meet.
 #[inline(always)]
-fn byte_inside(pages: &Pages, addr: u32) -> Option<u8>
-    ensures { IfSome result (λ w. loaded pages.now addr 1 4 ≡ Ok w) }
-{
-    match pages.load_1(addr, RIGHT_READ) {
-        Ok(byte) => Some(byte),
-        Err(_) => None,
-    }
-}
-
-/// The two bytes from an address on, where they lie in one page and can be read.
-#[inline(always)]
-fn half_inside(pages: &Pages, addr: u32) -> Option<u16>
-    ensures { IfSome result (λ w. loaded pages.now addr 2 4 ≡ Ok w) }
-{
-    if addr % 4096 > 4096 - 2 {
-        return None;
-    }
-    match pages.load_2(addr, RIGHT_READ) {
-        Ok(half) => Some(half),
-        Err(_) => None,
-    }
-}
-
-/// The four bytes from an address on, where they lie in one page and can be read.
-#[inline(always)]
-fn word_inside(pages: &Pages, addr: u32) -> Option<u32>
-    ensures { IfSome result (λ w. loaded pages.now addr 4 4 ≡ Ok w) }
-{
-    if addr % 4096 > 4096 - 4 {
-        return None;
-    }
-    match pages.load_4(addr, RIGHT_READ) {
-        Ok(word) => Some(word),
-        Err(_) => None,
-    }
-}
-
-/// A load whose bytes lie in one page, where they can be read: nothing is called on the way, so LLVM needs no answer in a
-/// register where the ways meet.
-#[inline(always)]
-pub fn load_inside(pages: &Pages, addr: u32, form: Form) -> Option<u32>
-    ensures { IfSome result (λ w. load_as form pages.now addr ≡ Ok w) }
+pub fn load_inside(pages: &mut CachedPages, addr: u32, form: Form) -> Option<u32>
+    ensures is { IfSome result (λ w. load_as form pages.old addr ≡ Ok w) }
+    ensures same { pages.new ≡ pages.old }
 {
     match form {
-        Form::SignedByte => Some(sign_byte(byte_inside(pages, addr)?)),
-        Form::SignedHalf => Some(sign_half(half_inside(pages, addr)?)),
-        Form::Word => word_inside(pages, addr),
-        Form::Byte => Some(byte_inside(pages, addr)? as u32),
-        Form::Half => Some(half_inside(pages, addr)? as u32),
+        Form::SignedByte => Some(sign_byte(pages.load_1(addr)?)),
+        Form::SignedHalf => Some(sign_half(pages.load_2(addr)?)),
+        Form::Word => pages.load_4(addr),
+        Form::Byte => Some(pages.load_1(addr)? as u32),
+        Form::Half => Some(pages.load_2(addr)? as u32),
     }
 }
 
 /// A store whose bytes lie in one page, where they can be written. Else it is false, and nothing changes.
 #[inline(always)]
-pub fn store_inside(pages: &mut Pages, addr: u32, value: u32, width: Width) -> bool
+pub fn store_inside(pages: &mut CachedPages, addr: u32, value: u32, width: Width) -> bool
     ensures is { result ≡ true → store_as width pages.old addr value ≡ Ok pages.new }
     ensures not { result ≡ false → pages.new ≡ pages.old }
 {
     match width {
-        Width::One => pages.store_1(addr, value).is_ok(),
-        Width::Two => addr % 4096 <= 4096 - 2 && pages.store_2(addr, value).is_ok(),
-        Width::Four => addr % 4096 <= 4096 - 4 && pages.store_4(addr, value).is_ok(),
+        Width::One => pages.store_1(addr, value),
+        Width::Two => pages.store_2(addr, value),
+        Width::Four => pages.store_4(addr, value),
     }
 }
 

@@ -5,7 +5,7 @@ ghost use Rattle.user_ctx.specs.Stopping.{core};
 
 use crate::step::step;
 use crate::windows::Windows;
-use page_set::Pages;
+use page_set::{CachedPages, Pages};
 use user_spec::outcome::Outcome;
 
 /// More instructions than this pay for making them ready.
@@ -38,7 +38,8 @@ fn run_plain(pc: &mut u32, x: &mut [u32; 32], pages: &mut Pages, n: u32) -> (u32
     (n, Outcome::Done)
 }
 
-/// The same, by what is made ready on the way.
+/// The same, by what is made ready on the way. The registers are a copy meanwhile, so that none of the host's is needed to find
+/// them.
 #[inline(never)]
 fn run_ready(pc: &mut u32, x: &mut [u32; 32], pages: &mut Pages, n: u32) -> (u32, Outcome)
     requires { x.old ≡ 0 ∷ drop 1 x.old }
@@ -50,22 +51,30 @@ fn run_ready(pc: &mut u32, x: &mut [u32; 32], pages: &mut Pages, n: u32) -> (u32
     ensures stop { result.1 ≢ Outcome.Done → one_instruction (core pc.new x.new pages.new) ≡ record { outcome = result.1; core = core pc.new x.new pages.new } }
 {
     let mut at = *pc;
-    let mut windows = Windows::new(at, pages);
+    let mut windows = Windows::new(at);
+    let mut registers = *x;
+    let alloc = pages.allocator();
+    let mut cached = CachedPages::new(std::mem::replace(pages, Pages::new(alloc)));
     let mut done = 0;
     loop {
-        let (more, goes_on) = windows.run(&mut at, x, pages, n - done);
+        let (more, goes_on) = windows.run(&mut at, &mut registers, &mut cached, n - done);
         done += more;
         if done == n {
+            *pages = cached.into_pages();
+            *x = registers;
             *pc = at;
             return (n, Outcome::Done);
         }
         if goes_on {
             continue;
         }
-        windows.learn(at, pages);
-        match windows.step(&mut at, x, pages) {
+        let (outcome, stepped) = windows.step(&mut at, &mut registers, cached);
+        cached = stepped;
+        match outcome {
             Outcome::Done => done += 1,
             outcome => {
+                *pages = cached.into_pages();
+                *x = registers;
                 *pc = at;
                 return (done, outcome);
             }

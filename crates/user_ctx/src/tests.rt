@@ -387,6 +387,58 @@ const CHANGES_TWO_WORDS: [u32; 13] = [
     ECALL,
 ];
 
+/// Adds one to a number from page to page and back, 16 pages apart, in each round.
+const COPIES: [u32; 11] = [
+    // lui t1, 0x80
+    0x0008_0337,
+    // lui t2, 0x90
+    0x0009_03B7,
+    // lw a3, 0(t1)
+    0x0003_2683,
+    // addi a3, a3, 1
+    0x0016_8693,
+    // sw a3, 0(t2)
+    0x00D3_A023,
+    // lw a0, 0(t2)
+    0x0003_A503,
+    // sw a0, 0(t1)
+    0x00A3_2023,
+    // addi a1, a1, -1
+    0xFFF5_8593,
+    // bne a1, x0, -24
+    0xFE05_94E3,
+    SET_EXIT,
+    ECALL,
+];
+
+/// Adds one to a number in each of 20 pages, and their sum to a0, in each round.
+const VISITS: [u32; 13] = [
+    // lui t3, 1
+    0x0000_1E37,
+    // lui t1, 0x80
+    0x0008_0337,
+    // lui t2, 0x94
+    0x0009_43B7,
+    // lw a3, 0(t1)
+    0x0003_2683,
+    // addi a3, a3, 1
+    0x0016_8693,
+    // sw a3, 0(t1)
+    0x00D3_2023,
+    // add a0, a0, a3
+    0x00D5_0533,
+    // add t1, t1, t3
+    0x01C3_0333,
+    // bne t1, t2, -20
+    0xFE73_16E3,
+    // addi a1, a1, -1
+    0xFFF5_8593,
+    // bne a1, x0, -36
+    0xFC05_9EE3,
+    SET_EXIT,
+    ECALL,
+];
+
 /// a0 at a brk, its answer, and how many pages there are then, of five at first; Grows where it maps pages.
 const LIMITS: [(u32, u32, u32, Stop); 8] = [
     (0, BASE, 5, Stop::Went),
@@ -644,6 +696,22 @@ fn changes_in_steps(
 fn code_that_changes_is_executed_as_it_is(rt: HostRuntime) {
     changes_itself(&rt, rt.alloc(), &CHANGES_A_WORD, (5050, 0, 0));
     changes_itself(&rt, rt.alloc(), &CHANGES_TWO_WORDS, (79_300, 50, 51));
+}
+
+/// A process over 20 pages of data has these in a0, a2 and a3 at its exit after 50 rounds.
+fn uses_pages(rt: &impl Abort, alloc: Global, words: &[u32], want: (u32, u32, u32)) {
+    let mut pages = pages_with(rt, alloc, words, RIGHT_READ | RIGHT_RUN);
+    for page in 0x80..0x94u32 {
+        map(rt, &mut pages, page, RIGHT_READ | RIGHT_WRITE);
+    }
+    let mut user = User::new(CODE, 0x5000, 0, 50, pages, BASE);
+    assert_eq!(rt; ends(rt, alloc, &mut user), want);
+}
+
+#[test]
+fn many_pages_keep_their_numbers(rt: HostRuntime) {
+    uses_pages(&rt, rt.alloc(), &COPIES, (50, 0, 50));
+    uses_pages(&rt, rt.alloc(), &VISITS, (25_500, 0, 50));
 }
 
 /// A brk at this a0, how it answers, and how many pages there are then.

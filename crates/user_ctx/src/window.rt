@@ -1,10 +1,11 @@
 // The words of one page, made ready.
 ghost use Rattle.std.specs.Prelude.{◌≡◌, ◌<◌, ◌+◌, ◌%◌, ◌^◌};
+ghost use Rattle.page_set.specs.Pages.{PageMap};
 ghost use Rattle.user_ctx.specs.Windows.{word_of, IsWindow, IsWindowBut, Forgets};
 
 use crate::op::{Op, op_of};
 use call_table::RIGHT_RUN;
-use page_set::Pages;
+use page_set::{CachedPages, Pages};
 use rv_decode::decode;
 
 /// The words of the page from an address on, made ready. Behind them stands one that is not.
@@ -18,10 +19,10 @@ impl Window {
     /// A page of which nothing is known.
     #[inline(always)]
     #[tactic(auto, using(crate::proofs::Made::nothing))]
-    pub fn new(base: u32, pages: &Pages) -> Self
+    pub fn new(base: u32) -> Self
         requires aligned { base % 4096 ≡ 0 }
         requires range { base + 4096 < 2 ^ 32 }
-        ensures is { IsWindow pages.now result.base result.ops }
+        ensures is { (pages : PageMap) → IsWindow pages result.base result.ops }
         ensures base { result.base ≡ base }
     {
         Window {
@@ -72,7 +73,7 @@ impl Window {
 
     /// Forgets the words that four bytes from an address on touch.
     #[tactic(auto, using(crate::proofs::Made::forgot))]
-    pub fn forget(&mut self, addr: u32, pages: &Pages)
+    pub fn forget(&mut self, addr: u32, pages: &CachedPages)
         requires { IsWindowBut addr pages.now self.old.base self.old.ops }
         ensures is { IsWindow pages.now self.new.base self.new.ops }
         ensures base { self.new.base ≡ self.old.base }

@@ -22,10 +22,11 @@ pub returns-in-Some-clause-idle : goal.returns-in-Some-clause-idle
 returns-in-Some-clause-idle o c = λ _. not_slow _ _ _ _ _ _ _ c.requires.window c.requires.place (sym c.work_done.ensures ∙ c.in-Loads.is) refl
 
 pub returns-in-Some-clause-gone : goal.returns-in-Some-clause-gone
-returns-in-Some-clause-gone o c = loads _ _ _ _ _ _ _ _ _ _ c.set_destination-in-Some.new.registers c.requires.window c.requires.place c.requires.zero (sym c.work_done.ensures ∙ c.in-Loads.is) c.in-Some.ensures c.set_destination-in-Some.ensures.new
+returns-in-Some-clause-gone o c =
+    rw c.in-Some.ensures.same (loads _ _ _ _ _ _ _ _ _ _ c.set_destination-in-Some.new.registers c.requires.window c.requires.place c.requires.zero (sym c.work_done.ensures ∙ c.in-Loads.is) c.in-Some.ensures.is c.set_destination-in-Some.ensures.new)
 
 pub returns-in-Some-clause-keeps : goal.returns-in-Some-clause-keeps
-returns-in-Some-clause-keeps o c = same_words _ _ _ _ refl
+returns-in-Some-clause-keeps o c = same_words _ _ _ _ c.in-Some.ensures.same
 
 pub returns-then-is_clear-clause-place : goal.returns-then-is_clear-clause-place
 returns-then-is_clear-clause-place o c = let lt = inside _ _ _ _ _ _ _ c.requires.window c.requires.place (sym c.work_done.ensures ∙ c.in-Stores.is) refl in omega (arith, lt)

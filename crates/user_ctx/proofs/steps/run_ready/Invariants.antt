@@ -6,10 +6,10 @@ use Rattle.user_ctx.proofs.steps.run_ready.Given as goal
 
 abbrev pub invariant-loop-done : goal.invariant-loop-done
 invariant-loop-done l = record {
-  zero : l.x ≡ 0 ∷ drop 1 l.x;
+  zero : l.registers ≡ 0 ∷ drop 1 l.registers;
   most : l.done ≤ l.n;
-  went : ran l.done (core l.fn.pc l.fn.x l.fn.pages) ≡ Some (core l.at l.x l.pages);
-  ready : AreReady l.pages l.windows;
+  went : ran l.done (core l.fn.pc l.fn.x l.fn.pages) ≡ Some (core l.at l.registers l.cached);
+  ready : AreReady l.cached l.windows;
 }
 
 abbrev pub decreases-loop-done : goal.decreases-loop-done
