@@ -100,6 +100,7 @@ impl<C: Carrier> Seat<Node, C> {
     }
 
     /// Takes a letter off the link from a node, where one is there.
+    #[inline(always)]
     pub(crate) fn take_from(&mut self, source: u8) -> Result<Option<Letter>, NoMemory>
         ensures { IfOk result (λ came. Took C.puts C.gives C.pair C.known source came self.old self.new) }
     {

@@ -42,6 +42,7 @@ pub fn hand<C: Carrier>(side: &mut Side<C>, letter: Letter) -> Option<Letter>
 }
 
 /// The next letter of the link at a place, which comes from a node.
+#[inline(always)]
 fn take_at<C: Carrier>(
     side: &mut Side<C>,
     at: usize,
@@ -61,6 +62,7 @@ fn take_at<C: Carrier>(
 }
 
 /// The next letter of the link from a node, where one is there.
+#[inline(always)]
 pub fn look<C: Carrier>(side: &mut Side<C>, source: u8) -> Result<Option<Letter>, NoMemory>
     ensures looked { IfOk result (λ came. Looked C.puts C.gives C.pair source came side.old side.new) }
     ensures tells { IfOk result (λ came. LookTells C.known source came side.old side.new) }

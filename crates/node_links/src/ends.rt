@@ -56,6 +56,7 @@ impl In {
     ghost use Rattle.node_links.specs.Links.{letters_taken, known_letters, SameIn};
 
     /// Takes the next letter off the link, the first that this end knows of. None only where it knew of no letter there. It takes no memory.
+    #[inline(always)]
     pub fn take(&mut self) -> Option<Letter>
         ensures link { SameIn self.old self.new }
         ensures some { IfSome result (λ letter. letters_taken self.new ≡ letters_taken self.old ++ letter ∷ []) }

@@ -45,6 +45,7 @@ impl Carrier for RingCarrier {
         self.out.put(letter)
     }
 
+    #[inline(always)]
     fn take(&mut self) -> Option<Letter> {
         match self.back.take() {
             Some(letter) => {
@@ -60,6 +61,7 @@ impl Carrier for RingCarrier {
     }
 
     /// It does nothing: what has come is on the ring.
+    #[inline(always)]
     fn ready(&mut self) -> Result<(), NoMemory> {
         Ok(())
     }
