@@ -1,6 +1,6 @@
 -- Cached frames, in front of the tree.
-use Rattle.std.proofs.Common.{◌≡◌, ◌≢◌, inl, inr, ℕ, zero, suc, ◌+◌, ◌/◌, ◌%◌, ◌^◌, ◌<◌, ◌≤◌, List, [], ◌∷◌, refl, ap, ◌∙◌, sym, subst, arith, Bool, true, false, Option, Some, None, Ok, IsSome, is_some, length, set, replicate, slice_index_or}
-use Rattle.std.specs.Prelude.{◌==◌, if◌then◌else◌, not}
+use Rattle.std.proofs.Common.{◌≡◌, ◌≢◌, inl, inr, ℕ, zero, suc, ◌+◌, ◌-◌, ◌/◌, ◌%◌, ◌^◌, ◌<◌, ◌≤◌, List, [], ◌∷◌, refl, ap, ◌∙◌, sym, subst, arith, Bool, true, false, Option, Some, None, Ok, IsSome, is_some, length, set, replicate, slice_index_or}
+use Rattle.std.specs.Prelude.{◌==◌, not}
 use Rattle.std.specs.List.{slice_get}
 use Rattle.std.specs.Option.{option_map}
 use Rattle.std.proofs.lemmas.Bool.Decides.{nat_tests, eqb_tells}
@@ -9,10 +9,10 @@ use Rattle.std.proofs.lemmas.Option.{none-some, same_Some}
 use Rattle.page_set.specs.Pages.{PageMap, loaded, stored, little}
 use Rattle.page_set.specs.declared.frame.Frame.{Frame}
 use Rattle.page_set.specs.declared.entry.Entry.{Entry}
-use Rattle.page_set.specs.Tree.{Tree, frame_at, leaf_at, pages_of, pages_by, part, grants, has_right, edited, written, IsCounted, IsEdited, LeavesStay}
+use Rattle.page_set.specs.Tree.{Tree, frame_at, leaf_at, pages_of, part, grants, has_right, edited, written, IsCounted, IsEdited, LeavesStay}
 use Rattle.page_set.specs.Entries.{frame_of_entry, frame_or, cached_frame, cached_pages, IsBare, IsHeld, HoldsAs, Holds, AreCached, IsFound, Wrote, IsWritten, IsUncached, IsPutBack, ArePutBack, AreMoved, IsTaken}
 use Rattle.page_set.proofs.Maps.{alike_pages}
-use Rattle.page_set.proofs.Trees.{slice_get_set, slice_get_set_other, same_leaves}
+use Rattle.page_set.proofs.Trees.{slice_get_set, slice_get_set_other}
 use Rattle.page_set.proofs.Accesses.{loads_by, loads_alike}
 use Rattle.page_set.proofs.Writes.{stores_by, edited_granted, edited_refused}
 use Rattle.page_set.proofs.Edits.{leaf_there}
@@ -93,7 +93,7 @@ frame_set_other old new tree page place entry s e =
     ap (λ o. frame_or o page (frame_at tree page)) (ap (λ xs. slice_get xs (page % 16)) e ∙ slice_get_set_other old place (page % 16) entry s)
 
 -- no entry is of a page
-pub none_cached : (entries : List Entry) (tree : Tree) (entry : Entry) → entries ≡ replicate 16 entry → frame_of_entry entry ≡ None → 2 ^ 20 ≤ entry.readable → 2 ^ 20 ≤ entry.writable → AreCached entries tree
+pub none_cached : (entries : List Entry) (tree : Tree) (entry : Entry) → entries ≡ replicate 16 entry → frame_of_entry entry ≡ None → 2 ^ 20 < entry.readable → 2 ^ 20 < entry.writable → AreCached entries tree
 none_cached entries tree entry e none r w = record {
   long = ap length e ∙ length-replicate 16 entry;
   each = λ i other is.
@@ -116,7 +116,7 @@ none_same entries tree entry e r = all_bare entries tree (λ i other lt is.
 
 -- ---- loads
 
-pub found : (entries : List Entry) (tree : Tree) (page : ℕ) (entry : Entry) (f : Frame) → AreCached entries tree → entry ≡ slice_index_or entries (page % 16) entry → entry.readable ≡ page → frame_of_entry entry ≡ Some f → IsFound entries tree page f
+found : (entries : List Entry) (tree : Tree) (page : ℕ) (entry : Entry) (f : Frame) → AreCached entries tree → entry ≡ slice_index_or entries (page % 16) entry → entry.readable ≡ page → frame_of_entry entry ≡ Some f → IsFound entries tree page f
 found entries tree page entry f cached is r fr =
     let at : slice_get entries (page % 16) ≡ Some entry = there entries tree page entry cached is in
     record {
@@ -124,31 +124,63 @@ found entries tree page entry f cached is r fr =
       read = (held tree (page % 16) entry f fr (cached.each (page % 16) entry at)).read;
     }
 
-pub not_bare : (entries : List Entry) (tree : Tree) (page : ℕ) (entry : Entry) → AreCached entries tree → page < 2 ^ 20 → entry ≡ slice_index_or entries (page % 16) entry → entry.readable ≡ page → frame_of_entry entry ≡ None → ⊥
-not_bare entries tree page entry cached lt is r none =
+pub not_bare : (entries : List Entry) (tree : Tree) (page last : ℕ) (entry : Entry) → AreCached entries tree → last ≤ 2 ^ 20 → entry ≡ slice_index_or entries (page % 16) entry → entry.readable ≡ last → frame_of_entry entry ≡ None → ⊥
+not_bare entries tree page last entry cached lt is r none =
     let b : IsBare entry.readable entry.writable = bare tree (page % 16) entry none (cached.each (page % 16) entry (there entries tree page entry cached is)) in
     absurd (omega (arith, lt, r, b.unreadable))
+
+-- bytes that end in a page with the entry of the one in which they begin are in one page
+in_one_page : (addr more last : ℕ) → addr < 2 ^ 32 → more < 4096 → last ≡ (addr + more) / 4096 → last % 16 ≡ addr / 4096 % 16 → (last ≡ addr / 4096) × (addr % 4096 + more < 4096)
+in_one_page addr more last lt le is ends = (omega (arith, lt, le, is, ends), omega (arith, lt, le, is, ends))
+
+found_within : (entries : List Entry) (tree : Tree) (addr more last : ℕ) (entry : Entry) (f : Frame) → AreCached entries tree → addr < 2 ^ 32 → more < 4096 → last ≡ (addr + more) / 4096 → entry ≡ slice_index_or entries (addr / 4096 % 16) entry → entry.readable ≡ last → frame_of_entry entry ≡ Some f → (last ≡ addr / 4096) × (addr % 4096 + more < 4096)
+found_within entries tree addr more last entry f cached lt le l is r fr =
+    let place = addr / 4096 % 16 in
+    let h : IsHeld tree place entry.readable entry.writable f = held tree place entry f fr (cached.each place entry (there entries tree (addr / 4096) entry cached is)) in
+    in_one_page addr more last lt le l (ap (λ k. k % 16) (sym r) ∙ h.ending)
+
+pub found_at : (entries : List Entry) (tree : Tree) (addr more last : ℕ) (entry : Entry) (f : Frame) → AreCached entries tree → addr < 2 ^ 32 → more < 4096 → last ≡ (addr + more) / 4096 → entry ≡ slice_index_or entries (addr / 4096 % 16) entry → entry.readable ≡ last → frame_of_entry entry ≡ Some f → (IsFound entries tree (addr / 4096) f) × (addr % 4096 + more < 4096)
+found_at entries tree addr more last entry f cached lt le l is r fr =
+    let one : (last ≡ addr / 4096) × (addr % 4096 + more < 4096) = found_within entries tree addr more last entry f cached lt le l is r fr in
+    (found entries tree (addr / 4096) entry f cached is (r ∙ one.0) fr, one.1)
 
 pub cached_loads : (n : ℕ) (entries : List Entry) (tree : Tree) (addr : ℕ) (f : Frame) (w : ℕ) → IsFound entries tree (addr / 4096) f → addr < 2 ^ 32 → addr % 4096 + n ≤ 4096 → w ≡ little (part n f.bytes (addr % 4096)) → loaded (cached_pages entries tree) addr n 4 ≡ Ok w
 cached_loads n entries tree addr f w is lt h e = loads_by n (cached_frame entries tree) 4 addr f w is.there is.read lt h e
 
 -- ---- stores
 
-frame_is : (tree : Tree) (place r w : ℕ) (o : Option Frame) → HoldsAs tree place r w o → w < 2 ^ 20 → IsSome o
+frame_is : (tree : Tree) (place r w : ℕ) (o : Option Frame) → HoldsAs tree place r w o → w ≤ 2 ^ 20 → IsSome o
 frame_is tree place r w None h lt = absurd (omega (arith, lt, h.unwritable))
 frame_is tree place r w (Some f) h lt = refl
 
-pub writable_there : (entries : List Entry) (tree : Tree) (page : ℕ) (entry : Entry) → AreCached entries tree → entry ≡ slice_index_or entries (page % 16) entry → entry.writable < 2 ^ 20 → IsSome (frame_of_entry entry)
+pub writable_there : (entries : List Entry) (tree : Tree) (page : ℕ) (entry : Entry) → AreCached entries tree → entry ≡ slice_index_or entries (page % 16) entry → entry.writable ≤ 2 ^ 20 → IsSome (frame_of_entry entry)
 writable_there entries tree page entry cached is lt =
     frame_is tree (page % 16) entry.readable entry.writable (frame_of_entry entry) (cached.each (page % 16) entry (there entries tree page entry cached is)) lt
 
-pub stored_cached : (b : Bool) (old new : List Entry) (tree : Tree) (page at : ℕ) (bs : List ℕ) (entry entry2 : Entry) → Wrote b page at bs entry entry2 → AreCached old tree → entry ≡ slice_index_or old (page % 16) entry → new ≡ set old (page % 16) entry2 → AreCached new tree
-stored_cached true old new tree page at bs entry entry2 w cached is e =
+ends_in : (tree : Tree) (place r w : ℕ) (o : Option Frame) → HoldsAs tree place r w o → w ≤ 2 ^ 20 → w % 16 ≡ place
+ends_in tree place r w None h lt = absurd (omega (arith, lt, h.unwritable))
+ends_in tree place r w (Some f) h lt = ap (λ k. k % 16) (h.write lt).0 ∙ h.ending
+
+-- bytes that end in the page of the entry that can be written lie in one page
+written_within : (entries : List Entry) (tree : Tree) (addr n last : ℕ) (entry : Entry) → AreCached entries tree → addr < 2 ^ 32 → 0 < n → n ≤ 4096 → last ≡ (addr + (n - 1)) / 4096 → entry ≡ slice_index_or entries (addr / 4096 % 16) entry → entry.writable ≡ last → (last ≡ addr / 4096) × (addr % 4096 + n ≤ 4096)
+written_within entries tree addr n last entry cached lt some few l is w =
+    let place = addr / 4096 % 16 in
+    let low : entry.writable ≤ 2 ^ 20 = omega (arith, lt, few, w, l) in
+    let ends : entry.writable % 16 ≡ place = ends_in tree place entry.readable entry.writable (frame_of_entry entry) (cached.each place entry (there entries tree (addr / 4096) entry cached is)) low in
+    let one : (last ≡ addr / 4096) × (addr % 4096 + (n - 1) < 4096) = in_one_page addr (n - 1) last lt (omega (arith, some, few)) l (ap (λ k. k % 16) (sym w) ∙ ends) in
+    (one.0, omega (arith, some, one.1))
+
+pub write_fits : (entries : List Entry) (tree : Tree) (addr at n last : ℕ) (entry : Entry) → AreCached entries tree → addr < 2 ^ 32 → at ≡ addr % 4096 → 0 < n → n ≤ 4096 → last ≡ (addr + (n - 1)) / 4096 → entry ≡ slice_index_or entries (addr / 4096 % 16) entry → entry.writable ≡ last → at + n ≤ 4096
+write_fits entries tree addr at n last entry cached lt a some few l is w =
+    omega (arith, a, (written_within entries tree addr n last entry cached lt some few l is w).1)
+
+pub stored_cached : (b : Bool) (old new : List Entry) (tree : Tree) (page last at : ℕ) (bs : List ℕ) (entry entry2 : Entry) → Wrote b last at bs entry entry2 → AreCached old tree → entry ≡ slice_index_or old (page % 16) entry → new ≡ set old (page % 16) entry2 → AreCached new tree
+stored_cached true old new tree page last at bs entry entry2 w cached is e =
     cached_set old new tree (page % 16) entry2 (omega arith) cached
     (holds_same tree (page % 16) entry.readable entry.writable entry2.readable entry2.writable (option_map (written at bs) (frame_of_entry entry)) (frame_of_entry entry2) w.readable w.writable w.frame
     (holds_written tree (page % 16) entry.readable entry.writable at bs (frame_of_entry entry) (cached.each (page % 16) entry (there old tree page entry cached is))))
     e
-stored_cached false old new tree page at bs entry entry2 w cached is e =
+stored_cached false old new tree page last at bs entry entry2 w cached is e =
     cached_set old new tree (page % 16) entry2 (omega arith) cached (subst (Holds tree (page % 16)) (sym w) (cached.each (page % 16) entry (there old tree page entry cached is))) e
 
 wrote_page : (old new : List Entry) (tree : Tree) (addr at : ℕ) (bs : List ℕ) (entry entry2 : Entry) (o : Option Frame) → frame_of_entry entry ≡ o → IsWritten (addr / 4096) at bs entry entry2 → AreCached old tree → addr < 2 ^ 32 → at ≡ addr % 4096 → 0 < length bs → at + length bs ≤ 4096 → slice_get old (addr / 4096 % 16) ≡ Some entry → new ≡ set old (addr / 4096 % 16) entry2 → HoldsAs tree (addr / 4096 % 16) entry.readable entry.writable o → stored (cached_pages old tree) addr bs ≡ Ok (cached_pages new tree)
@@ -157,7 +189,7 @@ wrote_page old new tree addr at bs entry entry2 (Some f) fr w cached lt a some h
     let page = addr / 4096 in
     let place = addr / 4096 % 16 in
     let long : place < length old = omega (arith, cached.long) in
-    let low : entry.writable < 2 ^ 20 = omega (arith, lt, w.number) in
+    let low : entry.writable ≤ 2 ^ 20 = omega (arith, lt, w.number) in
     let r : entry.readable ≡ page = sym (holds.write low).0 ∙ w.number in
     let r2 : entry2.readable ≡ page = w.readable ∙ r in
     stores_by (cached_frame old tree) (cached_frame new tree) addr bs f
@@ -178,20 +210,22 @@ true_false e = cc
 false_true : false ≡ true → ⊥
 false_true e = cc
 
-pub stored_is : (b : Bool) (old new : List Entry) (tree : Tree) (addr at : ℕ) (bs : List ℕ) (entry entry2 : Entry) → Wrote b (addr / 4096) at bs entry entry2 → AreCached old tree → addr < 2 ^ 32 → at ≡ addr % 4096 → 0 < length bs → at + length bs ≤ 4096 → entry ≡ slice_index_or old (addr / 4096 % 16) entry → new ≡ set old (addr / 4096 % 16) entry2 → b ≡ true → stored (cached_pages old tree) addr bs ≡ Ok (cached_pages new tree)
-stored_is true old new tree addr at bs entry entry2 w cached lt a some h is e t =
+pub stored_is : (b : Bool) (old new : List Entry) (tree : Tree) (addr last at : ℕ) (bs : List ℕ) (entry entry2 : Entry) → Wrote b last at bs entry entry2 → AreCached old tree → addr < 2 ^ 32 → at ≡ addr % 4096 → 0 < length bs → length bs ≤ 4096 → last ≡ (addr + (length bs - 1)) / 4096 → entry ≡ slice_index_or old (addr / 4096 % 16) entry → new ≡ set old (addr / 4096 % 16) entry2 → b ≡ true → stored (cached_pages old tree) addr bs ≡ Ok (cached_pages new tree)
+stored_is true old new tree addr last at bs entry entry2 w cached lt a some few l is e t =
     let here : slice_get old (addr / 4096 % 16) ≡ Some entry = there old tree (addr / 4096) entry cached is in
-    wrote_page old new tree addr at bs entry entry2 (frame_of_entry entry) refl w cached lt a some h here e (cached.each (addr / 4096 % 16) entry here)
-stored_is false old new tree addr at bs entry entry2 w cached lt a some h is e t = absurd (false_true t)
+    let one : (last ≡ addr / 4096) × (addr % 4096 + length bs ≤ 4096) = written_within old tree addr (length bs) last entry cached lt some few l is w.number in
+    let here_written : IsWritten (addr / 4096) at bs entry entry2 = subst (λ page. IsWritten page at bs entry entry2) one.0 w in
+    wrote_page old new tree addr at bs entry entry2 (frame_of_entry entry) refl here_written cached lt a some (omega (arith, a, one.1)) here e (cached.each (addr / 4096 % 16) entry here)
+stored_is false old new tree addr last at bs entry entry2 w cached lt a some few l is e t = absurd (false_true t)
 
 set_same : {A : Type 0} (xs : List A) (i : ℕ) (v : A) → slice_get xs i ≡ Some v → set xs i v ≡ xs
 set_same [] i v h = absurd (none-some v h)
 set_same (x ∷ xs) zero v h = ap (λ y. y ∷ xs) (sym (same_Some x v h))
 set_same (x ∷ xs) (suc i) v h = ap (λ ys. x ∷ ys) (set_same xs i v h)
 
-pub not_stored : (b : Bool) (old new : List Entry) (tree : Tree) (page at : ℕ) (bs : List ℕ) (entry entry2 : Entry) → Wrote b page at bs entry entry2 → AreCached old tree → entry ≡ slice_index_or old (page % 16) entry → new ≡ set old (page % 16) entry2 → b ≡ false → cached_pages new tree ≡ cached_pages old tree
-not_stored true old new tree page at bs entry entry2 w cached is e t = absurd (true_false t)
-not_stored false old new tree page at bs entry entry2 w cached is e t =
+pub not_stored : (b : Bool) (old new : List Entry) (tree : Tree) (page last at : ℕ) (bs : List ℕ) (entry entry2 : Entry) → Wrote b last at bs entry entry2 → AreCached old tree → entry ≡ slice_index_or old (page % 16) entry → new ≡ set old (page % 16) entry2 → b ≡ false → cached_pages new tree ≡ cached_pages old tree
+not_stored true old new tree page last at bs entry entry2 w cached is e t = absurd (true_false t)
+not_stored false old new tree page last at bs entry entry2 w cached is e t =
     ap (λ xs. cached_pages xs tree) (e ∙ ap (set old (page % 16)) w ∙ set_same old (page % 16) entry (there old tree page entry cached is))
 
 -- ---- pages that are not cached
@@ -236,7 +270,7 @@ pub has_leaf : (entries : List Entry) (tree : Tree) (place : ℕ) (entry d : Ent
 has_leaf entries tree place entry d f lt cached is fr =
     (held tree place entry f fr (cached.each place entry (got entries place d (omega (arith, lt, cached.long)) ∙ ap Some (sym is)))).leaf
 
-bare_holds : (tree : Tree) (place : ℕ) (entry : Entry) → frame_of_entry entry ≡ None → 2 ^ 20 ≤ entry.readable → 2 ^ 20 ≤ entry.writable → Holds tree place entry
+bare_holds : (tree : Tree) (place : ℕ) (entry : Entry) → frame_of_entry entry ≡ None → 2 ^ 20 < entry.readable → 2 ^ 20 < entry.writable → Holds tree place entry
 bare_holds tree place entry none r w = subst (HoldsAs tree place entry.readable entry.writable) (sym none) (record { unreadable = r; unwritable = w })
 
 put_bare : (old new : List Entry) (place : ℕ) (b entry : Entry) → place < length old → new ≡ set old place b → 2 ^ 20 ≤ b.readable → slice_get new place ≡ Some entry → 2 ^ 20 ≤ entry.readable
@@ -244,7 +278,7 @@ put_bare old new place b entry lt e r is =
     let same : b ≡ entry = same_Some b entry (sym (slice_get_set old place b lt) ∙ ap (λ xs. slice_get xs place) (sym e) ∙ is) in
     subst (λ (x : Entry). 2 ^ 20 ≤ x.readable) same r
 
-pub put_back_none : (old new : List Entry) (tree : Tree) (place : ℕ) (entry b d : Entry) → place < 16 → AreCached old tree → entry ≡ slice_index_or old place d → frame_of_entry entry ≡ None → frame_of_entry b ≡ None → 2 ^ 20 ≤ b.readable → 2 ^ 20 ≤ b.writable → new ≡ set old place b → IsPutBack place old tree new tree
+pub put_back_none : (old new : List Entry) (tree : Tree) (place : ℕ) (entry b d : Entry) → place < 16 → AreCached old tree → entry ≡ slice_index_or old place d → frame_of_entry entry ≡ None → frame_of_entry b ≡ None → 2 ^ 20 < b.readable → 2 ^ 20 < b.writable → new ≡ set old place b → IsPutBack place old tree new tree
 put_back_none old new tree place entry b d lt cached is none bn br bw e =
     let long : place < length old = omega (arith, lt, cached.long) in
     let here : slice_get old place ≡ Some entry = got old place d long ∙ ap Some (sym is) in
@@ -253,11 +287,11 @@ put_back_none old new tree place entry b d lt cached is none bn br bw e =
       cached = cached_set old new tree place b lt cached (bare_holds tree place b bn br bw) e;
       same = alike_pages (cached_frame old tree) (cached_frame new tree) (λ q lq. elim (eqb_tells (q % 16) place) as (λ _. cached_frame new tree q ≡ cached_frame old tree q) [
         | inl s ↦
-            frame_set old new tree q place b long s.1 e ∙ frame_bare b q (frame_at tree q) lq br
-            ∙ sym (ap (λ o. frame_or o q (frame_at tree q)) (ap (slice_get old) s.1 ∙ here) ∙ frame_bare entry q (frame_at tree q) lq was.unreadable)
+            frame_set old new tree q place b long s.1 e ∙ frame_bare b q (frame_at tree q) lq (omega (arith, br))
+            ∙ sym (ap (λ o. frame_or o q (frame_at tree q)) (ap (slice_get old) s.1 ∙ here) ∙ frame_bare entry q (frame_at tree q) lq (omega (arith, was.unreadable)))
         | inr s ↦ frame_set_other old new tree q place b s.1 e
       ]);
-      bare = λ other got. put_bare old new place b other long e br got;
+      bare = λ other got. put_bare old new place b other long e (omega (arith, br)) got;
       others = λ j ne. ap (λ xs. slice_get xs j) e ∙ slice_get_set_other old place j b ne;
     }
 
@@ -275,7 +309,7 @@ put_frame tree tree2 q entry f fr edit = elim (eqb_tells q entry.readable) as (�
   | inr s ↦ edit.others q s.1 ∙ sym (frame_there entry q (frame_at tree q) (λ x. s.1 (sym x)))
 ]
 
-pub put_back_some : (old new : List Entry) (tree tree2 : Tree) (place : ℕ) (entry b d : Entry) (f : Frame) → place < 16 → AreCached old tree → entry ≡ slice_index_or old place d → frame_of_entry entry ≡ Some f → frame_of_entry b ≡ None → 2 ^ 20 ≤ b.readable → 2 ^ 20 ≤ b.writable → new ≡ set old place b → IsEdited tree tree2 entry.readable (Some f) → LeavesStay tree tree2 → IsPutBack place old tree new tree2
+pub put_back_some : (old new : List Entry) (tree tree2 : Tree) (place : ℕ) (entry b d : Entry) (f : Frame) → place < 16 → AreCached old tree → entry ≡ slice_index_or old place d → frame_of_entry entry ≡ Some f → frame_of_entry b ≡ None → 2 ^ 20 < b.readable → 2 ^ 20 < b.writable → new ≡ set old place b → IsEdited tree tree2 entry.readable (Some f) → LeavesStay tree tree2 → IsPutBack place old tree new tree2
 put_back_some old new tree tree2 place entry b d f lt cached is fr bn br bw e edit stay =
     let long : place < length old = omega (arith, lt, cached.long) in
     let here : slice_get old place ≡ Some entry = got old place d long ∙ ap Some (sym is) in
@@ -284,12 +318,12 @@ put_back_some old new tree tree2 place entry b d f lt cached is fr bn br bw e ed
       cached = cached_set old new tree2 place b lt (cached_stay old tree tree2 cached stay) (bare_holds tree2 place b bn br bw) e;
       same = alike_pages (cached_frame old tree) (cached_frame new tree2) (λ q lq. elim (eqb_tells (q % 16) place) as (λ _. cached_frame new tree2 q ≡ cached_frame old tree q) [
         | inl s ↦
-            frame_set old new tree2 q place b long s.1 e ∙ frame_bare b q (frame_at tree2 q) lq br
+            frame_set old new tree2 q place b long s.1 e ∙ frame_bare b q (frame_at tree2 q) lq (omega (arith, br))
             ∙ put_frame tree tree2 q entry f fr edit
             ∙ sym (ap (λ o. frame_or o q (frame_at tree q)) (ap (slice_get old) s.1 ∙ here))
         | inr s ↦ frame_set_other old new tree2 q place b s.1 e ∙ ap (frame_or (slice_get old (q % 16)) q) (edit.others q (λ x. s.1 (ap (λ k. k % 16) x ∙ was.ending)))
       ]);
-      bare = λ other got. put_bare old new place b other long e br got;
+      bare = λ other got. put_bare old new place b other long e (omega (arith, br)) got;
       others = λ j ne. ap (λ xs. slice_get xs j) e ∙ slice_get_set_other old place j b ne;
     }
 
@@ -314,7 +348,7 @@ put_all n old new tree tree2 all le = sym (all_bare new tree2 (λ i entry lt is.
 pub readable_leaf : (tree : Tree) (page : ℕ) (f : Frame) → frame_at tree page ≡ Some f → IsSome (leaf_at tree (page / 1024))
 readable_leaf tree page f is = leaf_there tree page (ap is_some is)
 
-pub taken : (page : ℕ) (old new : Tree) (entry : Entry) (f : Frame) → frame_at old page ≡ Some f → grants 4 f ≡ true → frame_of_entry entry ≡ frame_at old page → entry.readable ≡ page → (entry.writable < 2 ^ 20 → (entry.writable ≡ page) × (grants 2 f ≡ true)) → IsEdited old new page None → LeavesStay old new → IsTaken page old new entry
+pub taken : (page : ℕ) (old new : Tree) (entry : Entry) (f : Frame) → frame_at old page ≡ Some f → grants 4 f ≡ true → frame_of_entry entry ≡ frame_at old page → entry.readable ≡ page → (entry.writable ≤ 2 ^ 20 → (entry.writable ≡ page) × (grants 2 f ≡ true)) → IsEdited old new page None → LeavesStay old new → IsTaken page old new entry
 taken page old new entry f is g fr r w edit stay = record {
   readable = r;
   frame = fr;

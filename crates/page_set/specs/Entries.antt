@@ -26,8 +26,8 @@ cached_pages entries tree = pages_by (cached_frame entries tree)
 
 -- an entry of no page
 pub record IsBare (readable writable : ℕ) : Type 0 where
-  pub unreadable : 2 ^ 20 ≤ readable
-  pub unwritable : 2 ^ 20 ≤ writable
+  pub unreadable : 2 ^ 20 < readable
+  pub unwritable : 2 ^ 20 < writable
 
 -- an entry of a page that can be read, whose place in the tree is kept
 pub record IsHeld (tree : Tree) (place readable writable : ℕ) (frame : Frame) : Type 0 where
@@ -35,7 +35,7 @@ pub record IsHeld (tree : Tree) (place readable writable : ℕ) (frame : Frame) 
   pub ending : readable % 16 ≡ place
   pub leaf : IsSome (leaf_at tree (readable / 1024))
   pub read : grants 4 frame ≡ true
-  pub write : writable < 2 ^ 20 → (writable ≡ readable) × (grants 2 frame ≡ true)
+  pub write : writable ≤ 2 ^ 20 → (writable ≡ readable) × (grants 2 frame ≡ true)
 
 abbrev pub HoldsAs : Tree → ℕ → ℕ → ℕ → Option Frame → Type 0
 HoldsAs tree place readable writable None = IsBare readable writable
@@ -96,7 +96,7 @@ pub record IsTaken (page : ℕ) (old new : Tree) (entry : Entry) : Type 0 where
   pub readable : entry.readable ≡ page
   pub frame : frame_of_entry entry ≡ frame_at old page
   pub read : has_right 4 (frame_at old page) ≡ true
-  pub write : entry.writable < 2 ^ 20 → (entry.writable ≡ page) × (has_right 2 (frame_at old page) ≡ true)
+  pub write : entry.writable ≤ 2 ^ 20 → (entry.writable ≡ page) × (has_right 2 (frame_at old page) ≡ true)
   pub leaf : IsSome (leaf_at old (page / 1024))
   pub edited : IsEdited old new page None
   pub leaves : LeavesStay old new

@@ -199,19 +199,18 @@ impl CachedPages {
         self.cached_store_1(addr, value) || self.uncached_store_1(addr, value)
     }
 
-    /// Stores the low two bytes of a number, where its page is cached and can be written. Else it is false, and nothing changes.
+    /// Stores the low two bytes of a number, where they lie in one page that is cached and can be written. Else it is false, and nothing changes.
     #[inline(always)]
     fn cached_store_2(&mut self, addr: u32, value: u32) -> bool
         ensures is { result ≡ true → stored self.old addr (bytes_2 value) ≡ Ok self.new }
         ensures not { result ≡ false → self.new ≡ self.old }
     {
-        addr % 4096 <= 4096 - 2
-            && entry::store(
-                &mut self.entries,
-                &self.leaves,
-                addr,
-                &[(value % 0x100) as u8, (value / 0x100 % 0x100) as u8],
-            )
+        entry::store(
+            &mut self.entries,
+            &self.leaves,
+            addr,
+            &[(value % 0x100) as u8, (value / 0x100 % 0x100) as u8],
+        )
     }
 
     /// Stores the low two bytes of a number, where its page is not cached and can be written. Else it is false, and nothing changes.
@@ -241,14 +240,13 @@ impl CachedPages {
         self.cached_store_2(addr, value) || self.uncached_store_2(addr, value)
     }
 
-    /// Stores the four bytes of a number, where its page is cached and can be written. Else it is false, and nothing changes.
+    /// Stores the four bytes of a number, where they lie in one page that is cached and can be written. Else it is false, and nothing changes.
     #[inline(always)]
     fn cached_store_4(&mut self, addr: u32, value: u32) -> bool
         ensures is { result ≡ true → stored self.old addr (bytes_4 value) ≡ Ok self.new }
         ensures not { result ≡ false → self.new ≡ self.old }
     {
-        addr % 4096 <= 4096 - 4
-            && entry::store(&mut self.entries, &self.leaves, addr, &value.to_le_bytes())
+        entry::store(&mut self.entries, &self.leaves, addr, &value.to_le_bytes())
     }
 
     /// Stores the four bytes of a number, where its page is not cached and can be written. Else it is false, and nothing changes.

@@ -1,5 +1,5 @@
 // Cached frames: entries in front of the tree, each for the pages whose numbers end in its place.
-ghost use Rattle.std.specs.Prelude.{◌≡◌, ◌<◌, ◌≤◌, ◌+◌, ◌%◌, ◌^◌, Ok, IfSome, IsSome, MatchOption, length, true, false};
+ghost use Rattle.std.specs.Prelude.{◌≡◌, ◌<◌, ◌≤◌, ◌+◌, ◌/◌, ◌%◌, ◌^◌, Ok, IfSome, IsSome, MatchOption, length, true, false};
 ghost use Rattle.page_set.specs.Pages.{loaded, stored};
 ghost use Rattle.page_set.specs.Tree.{pages_of, grants};
 ghost use Rattle.page_set.specs.Entries.{AreCached, AreMoved, IsFound, Wrote, IsUncached, IsPutBack, IsTaken, cached_pages, frame_of_entry};
@@ -39,20 +39,31 @@ pub fn no_entries(leaves: &Vec<Option<Box<Leaf>>>) -> [Entry; 16]
 
 // ---- loads
 
-/// The frame of a page that is cached.
+/// The number of the page in which bytes end, so many behind the one at an address.
 #[inline(always)]
-#[tactic(auto, using(crate::proofs::Entries::found, crate::proofs::Entries::not_bare))]
+fn page_of_last(addr: u32, more: u32) -> u64
+    ensures { result ≡ (addr + more) / 4096 }
+{
+    (addr as u64 + more as u64) / 4096
+}
+
+/// The frame of the page of an address, where it is cached and has so many bytes more behind the one there. One comparison tells both:
+/// the page after it has an entry of its own.
+#[inline(always)]
+#[tactic(auto, using(crate::proofs::Entries::found_at, crate::proofs::Entries::not_bare))]
 fn find<'a>(
     entries: &'a [Entry; 16],
     leaves: &Vec<Option<Box<Leaf>>>,
-    page: u32,
+    addr: u32,
+    more: u32,
 ) -> Option<&'a Frame>
-    requires page { page < 2 ^ 20 }
+    requires more { more < 4096 }
     requires cached { AreCached entries.now leaves.now.items }
-    ensures { IfSome result (λ f. IsFound entries.now leaves.now.items page f.now) }
+    ensures found { IfSome result (λ f. IsFound entries.now leaves.now.items (addr / 4096) f.now) }
+    ensures within { IfSome result (λ f. addr % 4096 + more < 4096) }
 {
-    let entry = &entries[(page % 16) as usize];
-    if entry.readable != page as u64 {
+    let entry = &entries[(addr / 4096 % 16) as usize];
+    if entry.readable != page_of_last(addr, more) {
         return None;
     }
     match &entry.frame {
@@ -68,7 +79,7 @@ pub fn load_1(entries: &[Entry; 16], leaves: &Vec<Option<Box<Leaf>>>, addr: u32)
     requires { AreCached entries.now leaves.now.items }
     ensures { IfSome result (λ w. loaded (cached_pages entries.now leaves.now.items) addr 1 4 ≡ Ok w) }
 {
-    match find(entries, leaves, addr / 4096) {
+    match find(entries, leaves, addr, 0) {
         None => None,
         Some(frame) => Some(number_1(frame, (addr % 4096) as usize)),
     }
@@ -81,13 +92,9 @@ pub fn load_2(entries: &[Entry; 16], leaves: &Vec<Option<Box<Leaf>>>, addr: u32)
     requires { AreCached entries.now leaves.now.items }
     ensures { IfSome result (λ w. loaded (cached_pages entries.now leaves.now.items) addr 2 4 ≡ Ok w) }
 {
-    let at = (addr % 4096) as usize;
-    if at > 4096 - 2 {
-        return None;
-    }
-    match find(entries, leaves, addr / 4096) {
+    match find(entries, leaves, addr, 1) {
         None => None,
-        Some(frame) => Some(number_2(frame, at)),
+        Some(frame) => Some(number_2(frame, (addr % 4096) as usize)),
     }
 }
 
@@ -98,27 +105,23 @@ pub fn load_4(entries: &[Entry; 16], leaves: &Vec<Option<Box<Leaf>>>, addr: u32)
     requires { AreCached entries.now leaves.now.items }
     ensures { IfSome result (λ w. loaded (cached_pages entries.now leaves.now.items) addr 4 4 ≡ Ok w) }
 {
-    let at = (addr % 4096) as usize;
-    if at > 4096 - 4 {
-        return None;
-    }
-    match find(entries, leaves, addr / 4096) {
+    match find(entries, leaves, addr, 3) {
         None => None,
-        Some(frame) => Some(number_4(frame, at)),
+        Some(frame) => Some(number_4(frame, (addr % 4096) as usize)),
     }
 }
 
 // ---- stores
 
-/// Writes bytes to a page, where it is that of an entry and can be written.
+/// Writes bytes to the page of an entry, where it is the one in which they end and can be written.
 #[inline(always)]
-fn write_entry(entry: &mut Entry, page: u32, at: usize, bytes: &[u8]) -> bool
-    requires page { page < 2 ^ 20 }
-    requires at { at + length bytes.now ≤ 4096 }
-    requires there { entry.old.writable < 2 ^ 20 → IsSome (frame_of_entry entry.old) }
-    ensures { Wrote result page at bytes.now entry.old entry.new }
+fn write_entry(entry: &mut Entry, last: u64, at: usize, bytes: &[u8]) -> bool
+    requires last { last ≤ 2 ^ 20 }
+    requires at { entry.old.writable ≡ last → at + length bytes.now ≤ 4096 }
+    requires there { entry.old.writable ≤ 2 ^ 20 → IsSome (frame_of_entry entry.old) }
+    ensures { Wrote result last at bytes.now entry.old entry.new }
 {
-    if entry.writable != page as u64 {
+    if entry.writable != last {
         return false;
     }
     match &mut entry.frame {
@@ -130,9 +133,9 @@ fn write_entry(entry: &mut Entry, page: u32, at: usize, bytes: &[u8]) -> bool
     }
 }
 
-/// Stores bytes that lie in one page, where it is cached and can be written. Else nothing changes.
+/// Stores bytes, where they lie in one page that is cached and can be written. Else nothing changes.
 #[inline(always)]
-#[tactic(auto, using(crate::proofs::Entries::writable_there, crate::proofs::Entries::stored_cached, crate::proofs::Entries::stored_is, crate::proofs::Entries::not_stored))]
+#[tactic(auto, using(crate::proofs::Entries::stored_is, crate::proofs::Entries::not_stored))]
 pub fn store(
     entries: &mut [Entry; 16],
     leaves: &Vec<Option<Box<Leaf>>>,
@@ -140,16 +143,16 @@ pub fn store(
     bytes: &[u8],
 ) -> bool
     requires some { 0 < length bytes.now }
-    requires fits { addr % 4096 + length bytes.now ≤ 4096 }
+    requires few { length bytes.now ≤ 4096 }
     requires cached { AreCached entries.old leaves.now.items }
     ensures cached { AreCached entries.new leaves.now.items }
     ensures is { result ≡ true → stored (cached_pages entries.old leaves.now.items) addr bytes.now ≡ Ok (cached_pages entries.new leaves.now.items) }
     ensures not { result ≡ false → cached_pages entries.new leaves.now.items ≡ cached_pages entries.old leaves.now.items }
 {
-    let page = addr / 4096;
+    let last = page_of_last(addr, bytes.len() as u32 - 1);
     write_entry(
-        &mut entries[(page % 16) as usize],
-        page,
+        &mut entries[(addr / 4096 % 16) as usize],
+        last,
         (addr % 4096) as usize,
         bytes,
     )
@@ -279,7 +282,7 @@ pub fn put_all_back(entries: &mut [Entry; 16], leaves: &mut Vec<Option<Box<Leaf>
 
 /// The number of a page, where it can be written.
 fn writable_as(frame: &Frame, page: u32) -> u64
-    ensures { result < 2 ^ 20 → (result ≡ page) × (grants 2 frame.now ≡ true) }
+    ensures { result ≤ 2 ^ 20 → (result ≡ page) × (grants 2 frame.now ≡ true) }
 {
     if has(frame, 2) { page as u64 } else { NO_PAGE }
 }
